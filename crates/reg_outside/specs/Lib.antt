@@ -1,0 +1,5 @@
+pub mod Count
+pub mod CountFacts
+pub mod Plan
+pub mod Told
+pub mod ToldFacts
