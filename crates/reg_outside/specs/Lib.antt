@@ -1,5 +1,12 @@
 pub mod Count
 pub mod CountFacts
+pub mod MemLab
+pub mod MemSink
+pub mod MemSource
+pub mod MemWire
 pub mod Plan
+pub mod Planned
+pub mod StdSink
+pub mod StdSource
 pub mod Told
 pub mod ToldFacts

@@ -1,0 +1,3 @@
+pub mod Rail
+pub mod Table
+pub mod Valid

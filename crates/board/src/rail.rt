@@ -1,0 +1,115 @@
+ghost use Rattle.std.specs.Prelude.{◌≡◌, nat_le, option_map};
+ghost use Rattle.linear_range.specs.Pick.{pair_of};
+ghost use Rattle.board.specs.Table.{passing};
+
+use crate::constraints::Constraints;
+use crate::desc::Desc;
+use crate::names::Name;
+use crate::rail_id::RailId;
+use chip_regs::Regs;
+use linear_range::Pick;
+
+/// A rail: how its chip makes it, what the board asks of it, and the rail that supplies it.
+#[derive(Debug, Drop)]
+pub struct Rail {
+    pub name: Name,
+    pub desc: Desc,
+    pub limits: Constraints,
+    pub supply: Option<RailId>,
+    /// Both bounds are given, and the least is below the greatest.
+    pub changeable: bool,
+    /// The value of a rail that isn't changeable, in µV.
+    pub kept_uv: u32,
+}
+
+impl Rail {
+    ghost use Rattle.std.specs.Prelude.{◌≡◌, Some, true, IfSome, filter, length, option_map};
+    ghost use Rattle.linear_range.specs.Values.{pick_high, pick_low};
+    ghost use Rattle.linear_range.specs.Pick.{pair_of};
+    ghost use Rattle.chip_regs.specs.Registers.{HasChip};
+    ghost use Rattle.board.specs.Table.{uv_of};
+    ghost use Rattle.board.specs.Rail.{uv, is_on, is_within, choices, allowed, least as least_of};
+    ghost use Rattle.board.specs.Valid.{IsSoundRail};
+
+    /// Where the rail stands, in µV.
+    pub fn uv(&self, regs: &Regs) -> u32
+        requires sound { IsSoundRail (length regs.now) self.now }
+        ensures { result ≡ uv self.now regs.now }
+    {
+        match &self.desc.selector {
+            None => self.kept_uv,
+            Some(field) => {
+                let selector = u16::from(regs.get(field));
+                self.desc.table.value(selector).unwrap_or(self.kept_uv)
+            }
+        }
+    }
+
+    /// Whether the rail is on.
+    pub fn is_on(&self, regs: &Regs) -> bool
+        requires sound { IsSoundRail (length regs.now) self.now }
+        ensures { result ≡ is_on self.now regs.now }
+    {
+        regs.get(&self.desc.enable) == 1
+    }
+
+    /// The nearest allowed value not below `uv` µV, at its first selector.
+    pub fn at_or_above(&self, uv: u32) -> Option<Pick>
+        ensures pick { option_map pair_of result ≡ pick_high (choices self.now) uv }
+        ensures value { IfSome result (λ pick. self.now.changeable ≡ true → uv_of self.now.desc.table pick.sel ≡ Some pick.uv) }
+    {
+        if !self.changeable {
+            not_below(Some(self.kept()), uv)
+        } else if let Some((least, greatest)) = self.limits.bounds {
+            not_above(self.desc.table.selector_high(uv.max(least)), greatest)
+        } else {
+            self.desc.table.selector_high(uv)
+        }
+    }
+
+    /// The nearest allowed value not above `uv` µV, at its first selector.
+    pub fn at_or_below(&self, uv: u32) -> Option<Pick>
+        ensures pick { option_map pair_of result ≡ pick_low (choices self.now) uv }
+        ensures value { IfSome result (λ pick. self.now.changeable ≡ true → uv_of self.now.desc.table pick.sel ≡ Some pick.uv) }
+    {
+        if !self.changeable {
+            not_above(Some(self.kept()), uv)
+        } else if let Some((least, greatest)) = self.limits.bounds {
+            not_below(self.desc.table.selector_low(uv.min(greatest)), least)
+        } else {
+            self.desc.table.selector_low(uv)
+        }
+    }
+
+    /// The least allowed value within `least..=greatest` µV.
+    pub fn least_within(&self, least: u32, greatest: u32) -> Option<u32>
+        ensures { result ≡ least_of (filter (is_within (Some (least, greatest))) (allowed self.now)) }
+    {
+        let pick = not_above(self.at_or_above(least), greatest)?;
+        Some(pick.uv)
+    }
+
+    /// The one value of a rail that isn't changeable.
+    fn kept(&self) -> Pick
+        ensures { pair_of result ≡ (0, self.now.kept_uv) }
+    {
+        Pick {
+            sel: 0,
+            uv: self.kept_uv,
+        }
+    }
+}
+
+/// The pick, where it isn't below `least` µV.
+fn not_below(pick: Option<Pick>, least: u32) -> Option<Pick>
+    ensures { option_map pair_of result ≡ passing (nat_le least) (option_map pair_of pick) }
+{
+    pick.filter(|pick| pick.uv >= least)
+}
+
+/// The pick, where it isn't above `greatest` µV.
+fn not_above(pick: Option<Pick>, greatest: u32) -> Option<Pick>
+    ensures { option_map pair_of result ≡ passing (λ uv. nat_le uv greatest) (option_map pair_of pick) }
+{
+    pick.filter(|pick| pick.uv <= greatest)
+}

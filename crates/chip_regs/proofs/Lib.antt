@@ -1,0 +1,4 @@
+pub mod Masks
+pub mod Image
+pub mod Fields
+pub mod Clashes

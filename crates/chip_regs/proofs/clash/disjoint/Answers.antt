@@ -1,0 +1,31 @@
+use Rattle.std.proofs.Common.{ℕ, arith, below_more, refl, rules}
+use Rattle.std.specs.Prelude.{IsTrue}
+use Rattle.chip_regs.specs.Clash.{ClashesAt}
+use Rattle.chip_regs.proofs.Clashes.{clash-at, apart-read, clash_within, first-clash, none-clash, clash-not_none}
+use Rattle.chip_regs.proofs.clash.disjoint.Goals as goal
+
+found : (c : goal.Then-shares_bit) → ClashesAt c.args.fields.now c.loop-first.first c.loop-second.second
+found c = clash-at c.args.fields.now c.loop-first.first c.loop-second.second (omega arith) c.loop-second-test.true (c.shares_bit.ensures.0 c.if-shares_bit.true)
+
+pub returns-then-shares_bit-clause-ok : goal.returns-then-shares_bit-clause-ok
+returns-then-shares_bit-clause-ok c = (λ ok. absurd (search rules), λ none. absurd (clash-not_none c.args.fields.now c.loop-first.first c.loop-second.second (found c) none))
+
+pub returns-then-shares_bit-clause-clash : goal.returns-then-shares_bit-clause-clash
+returns-then-shares_bit-clause-clash c = first-clash c.args.fields.now _ c.loop-first.invariant c.loop-second.invariant (found c)
+
+pub loop-second-preserved : goal.loop-second-preserved
+loop-second-preserved c =
+    below_more _ _ c.loop-second.invariant
+    (apart-read c.args.fields.now c.loop-first.first c.loop-second.second c.loop-first-test.true c.loop-second-test.true
+    (λ shared. let holds : IsTrue c.shares_bit.result = c.shares_bit.ensures.1 shared in cc))
+
+pub loop-first-preserved : goal.loop-first-preserved
+loop-first-preserved c =
+    below_more _ _ c.loop-first.invariant
+    (λ j clash. c.loop-second.invariant j (let within = clash_within c.args.fields.now c.loop-first.first j clash in omega (arith, within)) clash)
+
+pub returns-clause-ok : goal.returns-clause-ok
+returns-clause-ok c =
+    let none : (i j : ℕ) → ¬ ClashesAt c.args.fields.now i j =
+    λ i j clash. c.loop-first.invariant i (let within = clash_within c.args.fields.now i j clash in omega (arith, within, clash.before)) j clash in
+    (λ _. none-clash c.args.fields.now none, λ _. refl)

@@ -1,0 +1,4 @@
+pub mod Field
+pub mod Registers
+pub mod Clash
+pub mod Laws

@@ -1,0 +1,12 @@
+//! The registers of a board's power chips: to put a number into a field changes that field and
+//! no other bit.
+#![tactic(auto)]
+
+mod clash;
+mod field;
+pub mod laws;
+mod regs;
+
+pub use clash::{Clash, disjoint};
+pub use field::{Bits, Field};
+pub use regs::Regs;

@@ -1,0 +1,16 @@
+use Rattle.std.proofs.Common.{ap, subst, sym, ◌∙◌}
+use Rattle.linear_range.specs.LinearRange.{IsSound}
+use Rattle.linear_range.specs.Values.{values, pick_high}
+use Rattle.linear_range.proofs.Steps.{lesser_more, lesser_all}
+use Rattle.linear_range.proofs.range_table.RangeTable.selector_high.Goals as goal
+
+pub loop-range-preserved : goal.loop-range-preserved
+loop-range-preserved g c =
+    let sound = subst (λ rs. IsSound g.row.N rs) (sym c.as_slice-range-items.ensures.value) c.self.invariant in
+    rw c.lesser-best.ensures
+    (lesser_more _ _ _ _ _ sound c.loop-range-test.true _ _ c.loop-range.invariant c.pick_high.ensures)
+
+pub returns : goal.returns
+returns g c =
+    lesser_all c.as_slice-range-items.result.now c.args.uv c.loop-range.range-index c.loop-range-test.false _ c.loop-range.invariant
+    ∙ ap (λ rs. pick_high (values rs) c.args.uv) (c.as_slice-range-items.ensures.value ∙ c.self.view_is)

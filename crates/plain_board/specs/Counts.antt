@@ -1,0 +1,33 @@
+-- The counts of a rail, added up from the lists.
+use Rattle.std.specs.Prelude.{ℕ, ◌+◌, ◌==◌, ◌&&◌, Bool, false, true, List, Option, Some, None, sum_by, count_by, slice_get, unwrap_or, if◌then◌else◌}
+use Rattle.board.specs.declared.board.Board.{Board}
+use Rattle.board.specs.declared.rail_id.RailId.{RailId}
+use Rattle.board.specs.declared.rail.Rail.{Rail}
+use Rattle.board.specs.Rail.{is_on}
+use Rattle.plain_board.specs.declared.handle_row.HandleRow.{HandleRow}
+use Rattle.plain_board.specs.declared.plain.Plain.{Plain}
+
+-- what one handle adds to the enables of rail i
+abbrev pub enables_by : ℕ → RailId × HandleRow → ℕ
+enables_by i row = if row.0.0 == i then row.1.enables else 0
+
+-- the enables of all handles on rail i
+abbrev pub enables : Plain → ℕ → ℕ
+enables plain i = sum_by (enables_by i) plain.handles
+
+-- rail i is held on
+abbrev pub is_held : Plain → ℕ → Bool
+is_held plain i = unwrap_or (slice_get plain.holds i) false
+
+-- rail i is the supply
+abbrev pub is_supply : ℕ → Option RailId → Bool
+is_supply i None = false
+is_supply i (Some supply) = supply.0 == i
+
+-- how many rails are on and have rail i as their supply
+abbrev pub votes : Board → Plain → ℕ → ℕ
+votes board plain i = count_by (λ rail. is_supply i rail.supply && is_on rail plain.regs) board.rails
+
+-- the use count: the enables, the hold, and the votes of the rails that it supplies
+abbrev pub use_count : Board → Plain → ℕ → ℕ
+use_count board plain i = enables plain i + (if is_held plain i then 1 else 0) + votes board plain i

@@ -1,0 +1,7 @@
+pub mod Answer
+pub mod Counts
+pub mod History
+pub mod Inv
+pub mod Moves
+pub mod Requests
+pub mod Text

@@ -1,0 +1,70 @@
+-- The moves of a rail from one value to another, and the registers after them.
+use Rattle.std.specs.Prelude.{ℕ, ◌*◌, ◌^◌, ◌==◌, ◌&&◌, Bool, not, nat_le, nat_lt, List, [], ◌∷◌, map, filter, find, slice_get, Option, Some, None, unwrap_or, option_map, option_and_then, if◌then◌else◌}
+use Rattle.chip_regs.specs.declared.field.Field.{Field}
+use Rattle.chip_regs.specs.Registers.{with_field}
+use Rattle.board.specs.declared.board.Board.{Board}
+use Rattle.board.specs.declared.part.Part.{Part}
+use Rattle.board.specs.declared.part.Part.TheVariants.{Selector}
+use Rattle.board.specs.declared.rail.Rail.{Rail}
+use Rattle.board.specs.declared.rail_id.RailId.{RailId}
+use Rattle.board.specs.declared.write.Write.{Write}
+use Rattle.board.specs.Rail.{allowed, choices, part_field}
+
+-- puts a number into a list in which each number stands once, in the order of `before`
+abbrev pub put_once : (ℕ → ℕ → Bool) → ℕ → List ℕ → List ℕ
+put_once before n [] = n ∷ []
+put_once before n (m ∷ ms) =
+    if before n m then n ∷ m ∷ ms
+    else (if n == m then m ∷ ms else m ∷ put_once before n ms)
+
+-- the numbers of a list, each once, in the order of `before`
+abbrev pub in_order : (ℕ → ℕ → Bool) → List ℕ → List ℕ
+in_order before [] = []
+in_order before (n ∷ ns) = put_once before n (in_order before ns)
+
+-- the values behind `from` and not behind `to`, each once, in the order of `before`
+abbrev pub stretch : (ℕ → ℕ → Bool) → List ℕ → ℕ → ℕ → List ℕ
+stretch before values from to = in_order before (filter (λ v. before from v && not (before to v)) values)
+
+-- the values that a rail comes by on its way, rising or falling, each next one the neighbour of the
+-- one before, and the last of them its target
+abbrev pub way : List ℕ → ℕ → ℕ → List ℕ
+way values from to = if nat_le from to then stretch nat_lt values from to else stretch (λ a b. nat_lt b a) values from to
+
+-- the first selector that gives a value
+abbrev pub selector_for : Rail → ℕ → ℕ
+selector_for rail uv = unwrap_or (option_map (λ pair. pair.0) (find (λ pair. pair.1 == uv) (choices rail))) 0
+
+-- one number for one field of one rail
+pub record Move : Type 0 where
+  pub rail : RailId
+  pub part : Part
+  pub bits : ℕ
+
+-- the field that a move writes, where the rail has it
+abbrev pub field_of_move : Board → Move → Option Field
+field_of_move board move = option_and_then (part_field move.part) (slice_get board.rails move.rail.0)
+
+-- the registers after a write of a field, where it is there
+abbrev pub written : Option Field → List (List ℕ) → ℕ → List (List ℕ)
+written None regs bits = regs
+written (Some field) regs bits = with_field regs field bits
+
+-- the registers after these moves
+abbrev pub after_moves : Board → List (List ℕ) → List Move → List (List ℕ)
+after_moves board regs [] = regs
+after_moves board regs (move ∷ moves) = after_moves board (written (field_of_move board move) regs move.bits) moves
+
+-- the moves that take a rail from one value to another: one of its selector for each value on the way
+abbrev pub moves_to : RailId → Rail → ℕ → ℕ → List Move
+moves_to r rail from to =
+    map (λ uv. record { rail = r; part = Selector; bits = selector_for rail uv }) (way (allowed rail) from to)
+
+-- the masked update that a write of a field makes
+abbrev pub update_of_field : Option Field → ℕ → Write
+update_of_field None bits = record { chip = 0; reg = 0; mask = 0; bits = 0 }
+update_of_field (Some field) bits = record { chip = field.chip; reg = field.reg; mask = field.mask; bits = bits * 2 ^ field.shift }
+
+-- the register writes of these moves
+abbrev pub writes_of : Board → List Move → List Write
+writes_of board moves = map (λ move. update_of_field (field_of_move board move) move.bits) moves

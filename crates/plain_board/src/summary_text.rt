@@ -1,0 +1,68 @@
+ghost use Rattle.std.specs.Prelude.{◌≡◌, ◌<◌, ◌^◌, ◌++◌, length, slice_get, codes, if◌then◌else◌, IfOk, OnOk, OnErr, string_bytes};
+ghost use Rattle.board.specs.Valid.{IsValid};
+ghost use Rattle.plain_board.specs.Inv.{Inv};
+ghost use Rattle.plain_board.specs.Text.{rail_text, summary_text};
+
+use crate::counts::{enables, use_count};
+use crate::plain::Plain;
+use board::{Board, Rail, RailId};
+use std::alloc::{AllocError, Global};
+
+/// Whether a rail is on, in words.
+fn state_text(on: bool) -> &'static str
+    ensures { result.now ≡ (if on then codes "on" else codes "off") }
+{
+    if on { "on" } else { "off" }
+}
+
+/// The line of a rail.
+fn rail_text(
+    alloc: Global,
+    board: &Board,
+    plain: &Plain,
+    id: RailId,
+    rail: &Rail,
+) -> Result<String, AllocError>
+    requires valid { IsValid board.now }
+    requires inv { Inv board.now plain.now }
+    requires few { length plain.now.handles < 2 ^ 32 }
+    requires place { slice_get board.now.rails id.0 ≡ Some rail.now }
+    ensures { IfOk result (λ text. string_bytes text ≡ rail_text board.now plain.now (id.0, rail.now)) }
+{
+    let name = &rail.name;
+    let state = state_text(rail.is_on(&plain.regs));
+    let uv = rail.uv(&plain.regs);
+    let used = use_count(board, plain, id);
+    let enabled = enables(plain, id);
+    let text = format!(in alloc; "rail {name} {state} {uv} normal use {used} enables {enabled}")?;
+    format!(in alloc; "{text}\n")
+}
+
+/// Appends where each rail stands, with its counts, and how many workers and rows there were.
+/// On want of memory `out` is as before.
+pub fn summary(
+    alloc: Global,
+    board: &Board,
+    plain: &Plain,
+    workers: u16,
+    rows: u32,
+    out: &mut Vec<u8>,
+) -> Result<(), AllocError>
+    requires valid { IsValid board.now }
+    requires inv { Inv board.now plain.now }
+    requires few { length plain.now.handles < 2 ^ 32 }
+    ensures ok { OnOk result (out.new.items ≡ out.old.items ++ summary_text board.now plain.now workers rows) }
+    ensures err { OnErr result (out.new.items ≡ out.old.items) }
+{
+    let mut text = String::new(alloc);
+    let mut id = 0;
+    for rail in board.rails.as_slice() {
+        let line = rail_text(alloc, board, plain, RailId(id), rail)?;
+        text.push_str(line.as_str())?;
+        id += 1;
+    }
+    let done = format!(in alloc; "done {workers} {rows}")?;
+    let last = format!(in alloc; "{done}\n")?;
+    text.push_str(last.as_str())?;
+    out.extend_from_slice(text.as_bytes())
+}

@@ -1,0 +1,15 @@
+use Rattle.std.proofs.Common.{◌≡◌, ◌∙◌, ap, subst, sym}
+use Rattle.std.specs.Int.{abs_diff, div_ceil}
+use Rattle.ramp_delay.specs.Times.{ramp_of, IsLeastTime}
+use Rattle.ramp_delay.proofs.Ceil.{div_ceil-IsLeastTime}
+use Rattle.ramp_delay.proofs.times.time.Goals as goal
+
+pub returns-then-ramp-ne0-clause-ramped : goal.returns-then-ramp-ne0-clause-ramped
+returns-then-ramp-ne0-clause-ramped c some =
+    let distance = abs_diff c.args.a c.args.b in
+    let ramp = ramp_of c.args.constraints.now c.args.desc_ramp in
+    let is : c.div_ceil.result ≡ div_ceil distance ramp =
+    c.div_ceil.ensures
+    ∙ ap (λ d. div_ceil d c.ramp-ramp.result) c.abs_diff.ensures
+    ∙ ap (λ r. div_ceil distance r) c.ramp-ramp.ensures in
+    subst (λ t. IsLeastTime distance ramp t) (sym is) (div_ceil-IsLeastTime distance ramp some)

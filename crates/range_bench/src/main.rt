@@ -1,0 +1,61 @@
+//! Looks voltages up in a table of two ranges, as many as its argument says, and prints a sum over
+//! the answers. `bench/linear_range/run.sh` times it.
+#![tactic(auto)]
+
+use linear_range::{LinearRange, RangeTable};
+use std::{env, io};
+
+/// The voltages go round from `LOWEST` µV by `STRIDE`, up to below `END`.
+const LOWEST: u32 = 600000;
+
+const STRIDE: u32 = 6173;
+
+const END: u32 = 2975000;
+
+/// The buck converters of a chip with two ranges.
+const BUCK: [LinearRange; 2] = [
+    LinearRange {
+        min: 600000,
+        min_sel: 0,
+        max_sel: 63,
+        step: 12500,
+    },
+    LinearRange {
+        min: 1400000,
+        min_sel: 64,
+        max_sel: 127,
+        step: 25000,
+    },
+];
+
+fn main(rt: HostRuntime) -> io::Result<()> {
+    let asked = env::args(&rt)?.nth(1);
+    let rounds = asked.and_then(|text| text.parse().ok()).unwrap_or(0);
+    if let Ok(table) = RangeTable::<8>::new(&BUCK) {
+        let sum = looked_up(&table, rounds);
+        println!(rt; "{sum}")?;
+    }
+    Ok(())
+}
+
+/// The sum over `rounds` voltages of the selectors from above and from below and of the value of
+/// the one from above.
+fn looked_up(table: &RangeTable<8>, rounds: u32) -> u64 {
+    let mut sum: u64 = 0;
+    let mut uv = LOWEST;
+    for _ in 0..rounds {
+        if let Some(high) = table.selector_high(uv) {
+            let value = table.value(high.sel).unwrap_or(0);
+            sum = sum.wrapping_add(u64::from(high.sel) + u64::from(value));
+        }
+        if let Some(low) = table.selector_low(uv) {
+            sum = sum.wrapping_add(u64::from(low.sel));
+        }
+        uv = if uv < END - STRIDE {
+            uv + STRIDE
+        } else {
+            LOWEST
+        };
+    }
+    sum
+}

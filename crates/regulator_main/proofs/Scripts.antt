@@ -1,0 +1,120 @@
+-- A script, one row more at a time.
+use Rattle.std.proofs.Common.{◌≡◌, ℕ, ◌+◌, ◌<◌, ◌≤◌, ◌⊎◌, inl, inr, Bool, true, false, cond, eqb, ltb, eq-eqb, List, [], ◌∷◌, ◌++◌, Option, Some, None, refl, sym, subst, ap, ◌∙◌, append_assoc, append-nil, zero-add, arith, map, filter, length, get_or, take}
+use Rattle.std.specs.Prelude.{All, count_by}
+use Rattle.std.proofs.lemmas.Bool.Decides.{nat_tests}
+use Rattle.std.proofs.lemmas.List.{take_more, map-append}
+use Rattle.std.proofs.lemmas.List.Elements.{All-push, filter-append}
+use Rattle.std.proofs.lemmas.List.Sums.{sum_by-append}
+use Rattle.reg_outside.specs.Count.{RoseBy}
+use Rattle.reg_outside.specs.CountFacts.{RoseBy-zero, RoseBy-trans}
+use Rattle.reg_outside.specs.Told.{with_more}
+use Rattle.reg_outside.specs.ToldFacts.{with_more-nil, with_more-with_more}
+use Rattle.board.specs.declared.board.Board.{Board}
+use Rattle.board.specs.declared.write.Write.{Write}
+use Rattle.plain_board.specs.declared.answer.Answer.{Answer}
+use Rattle.plain_board.specs.declared.answer.Answer.TheVariants.{Ok, OkSet, OkUv, BadRange, NoValue, NoHandle, Fault}
+use Rattle.plain_board.specs.declared.call.Call.{Call}
+use Rattle.plain_board.specs.declared.plain.Plain.{Plain}
+use Rattle.plain_board.specs.declared.row.Row.{Row}
+use Rattle.plain_board.specs.Answer.{answer, plan}
+use Rattle.plain_board.specs.History.{stop_of, IsWithinPlan, made_of, moves_of, after_stop, after, replay, NamesRail, rows_of, IsNext, legal_after, IsLegal, KeepsNone, moved, is_fault, faults_of}
+use Rattle.plain_board.specs.Moves.{writes_of}
+use Rattle.plain_board.specs.Text.{HasRails}
+use Rattle.regulator_main.specs.Desk.{Performs, CountsFault}
+use Rattle.regulator_main.specs.Script.{PlaysScript, turn_of, turns_of}
+use Rattle.regulator_main.specs.Walk.{Updates, update_of}
+
+pub replay-append : (board : Board) (plain : Plain) (xs ys : List Row) → replay board plain (xs ++ ys) ≡ replay board (replay board plain xs) ys
+replay-append board plain [] ys = refl
+replay-append board plain (x ∷ xs) ys = replay-append board (after board plain x) xs ys
+
+pub moved-append : (board : Board) (plain : Plain) (worker : ℕ) (xs ys : List Row) → moved board plain worker (xs ++ ys) ≡ moved board plain worker xs ++ moved board (replay board plain xs) worker ys
+moved-append board plain worker [] ys = refl
+moved-append board plain worker (x ∷ xs) ys =
+    let first : List Write = cond (eqb x.worker worker) (writes_of board (moves_of board plain x)) [] in
+    ap (λ rest. first ++ rest) (moved-append board (after board plain x) worker xs ys)
+    ∙ sym (append_assoc first (moved board (after board plain x) worker xs) (moved board (replay board (after board plain x) xs) worker ys))
+
+legal-push : (board : Board) (plain : Plain) (before xs : List Row) (y : Row) → legal_after board plain before xs → IsNext board (replay board plain xs) (before ++ xs) y → legal_after board plain before (xs ++ y ∷ [])
+legal-push board plain before [] y legal next = (subst (λ (rows : List Row). IsNext board plain rows y) (append-nil before) next, tt)
+legal-push board plain before (x ∷ xs) y legal next =
+    (legal.0, legal-push board (after board plain x) (before ++ x ∷ []) xs y legal.1 (subst (λ (rows : List Row). IsNext board (replay board (after board plain x) xs) rows y) (sym (append_assoc before (x ∷ []) xs)) next))
+
+-- the plain board after a row is that of its answer
+after_by : (board : Board) (plain plain' : Plain) (row : Row) (stop : Option ℕ) → IsWithinPlan stop (plan board plain row.worker row.call)
+    → answer board plain row.worker row.call stop ≡ (row.answer, plain') → after_stop board plain row stop ≡ plain'
+after_by board plain plain' row None within answered = ap (λ (p : Answer × Plain). p.1) answered
+after_by board plain plain' row (Some made) within answered =
+    let inside : ltb made (length (plan board plain row.worker row.call)) ≡ true = grind (arith, nat_tests) in
+    rw inside (ap (λ (p : Answer × Plain). p.1) answered)
+
+-- a fault was counted once, and nothing else was
+rose_by : (said : Answer) (count count' : ℕ) → CountsFault said count count' → RoseBy count count' (cond (is_fault said) 1 0)
+rose_by Ok count count' is = subst (λ (c : ℕ). RoseBy count c 0) (sym is) (RoseBy-zero count)
+rose_by (OkSet uv delay) count count' is = subst (λ (c : ℕ). RoseBy count c 0) (sym is) (RoseBy-zero count)
+rose_by (OkUv uv) count count' is = subst (λ (c : ℕ). RoseBy count c 0) (sym is) (RoseBy-zero count)
+rose_by (BadRange lo hi) count count' is = subst (λ (c : ℕ). RoseBy count c 0) (sym is) (RoseBy-zero count)
+rose_by NoValue count count' is = subst (λ (c : ℕ). RoseBy count c 0) (sym is) (RoseBy-zero count)
+rose_by NoHandle count count' is = subst (λ (c : ℕ). RoseBy count c 0) (sym is) (RoseBy-zero count)
+rose_by (Fault chip reg applied now) count count' is = is
+
+-- a row that keeps no writes
+abbrev pub row_of : ℕ → ℕ → Call → Answer → Row
+row_of worker line call said = record { worker = worker; line = line; call = call; answer = said; writes = [] }
+
+-- the rows of a worker, with one more
+pub rows_of-push : (worker line : ℕ) (call : Call) (said : Answer) (rows : List Row) → rows_of worker (rows ++ row_of worker line call said ∷ []) ≡ rows_of worker rows ++ row_of worker line call said ∷ []
+rows_of-push worker line call said rows =
+    let row = row_of worker line call said in
+    filter-append (λ r. eqb r.worker worker) rows (row ∷ []) ∙ ap (λ t. rows_of worker rows ++ cond t (row ∷ []) []) (eq-eqb worker worker refl)
+
+faults_of-push : (worker line : ℕ) (call : Call) (said : Answer) (rows : List Row) → faults_of worker (rows ++ row_of worker line call said ∷ []) ≡ faults_of worker rows + cond (is_fault said) 1 0
+faults_of-push worker line call said rows =
+    ap (count_by (λ r. is_fault r.answer)) (rows_of-push worker line call said rows)
+    ∙ sum_by-append (λ r. cond (is_fault r.answer) 1 0) (rows_of worker rows) (row_of worker line call said ∷ [])
+    ∙ ap (λ n. faults_of worker rows + n) (zero-add (cond (is_fault said) 1 0))
+
+module _ (board : Board) (plain now plain' : Plain) (worker line : ℕ) (call : Call) (said : Answer) (rows : List Row) (told mid told' : Option Updates) (count between count' : ℕ) (is : now ≡ replay board plain rows) (performs : Performs board now plain' worker call said mid told' between count') where
+  abbrev the_row : Row
+  the_row = row_of worker line call said
+
+  -- the plain board after one row more
+  pub replay_more : plain' ≡ replay board plain (rows ++ row_of worker line call said ∷ [])
+  replay_more =
+      sym (after_by board now plain' the_row (stop_of said) performs.within performs.answered)
+      ∙ ap (λ p. after board p the_row) is ∙ sym (replay-append board plain rows (the_row ∷ []))
+
+  moved_one : moved board now worker (the_row ∷ []) ≡ writes_of board (made_of (stop_of said) (plan board now worker call))
+  moved_one = ap (λ t. cond t (writes_of board (moves_of board now the_row)) [] ++ []) (eq-eqb worker worker refl) ∙ append-nil (writes_of board (moves_of board now the_row))
+
+  moved_more : moved board plain worker (rows ++ the_row ∷ []) ≡ moved board plain worker rows ++ writes_of board (made_of (stop_of said) (plan board now worker call))
+  moved_more =
+      moved-append board plain worker rows (the_row ∷ [])
+      ∙ ap (λ p. moved board plain worker rows ++ moved board p worker (the_row ∷ [])) (sym is)
+      ∙ ap (λ ws. moved board plain worker rows ++ ws) moved_one
+
+  -- one call more is played
+  pub plays_more : (script : List Call) (i : ℕ) → PlaysScript board plain worker (take i script) rows told mid count between
+      → line ≡ i + 1 → length (rows_of worker rows) ≡ i → NamesRail board call → i < length script → call ≡ get_or script i call
+      → PlaysScript board plain worker (take (i + 1) script) (rows ++ row_of worker line call said ∷ []) told told' count count'
+  plays_more script i plays line_is lines names within here = record {
+    legal = legal-push board plain [] rows the_row plays.legal (subst (λ (p : Plain). IsNext board p rows the_row) is (record {
+      rail = names;
+      stop = performs.within;
+      answered = sym (ap (λ (p : Answer × Plain). p.0) performs.answered);
+      line = line_is ∙ ap (λ n. n + 1) (sym lines);
+      writes = inl refl;
+    }));
+    in_order =
+        map-append turn_of rows (the_row ∷ []) ∙ ap (λ turns. turns ++ (worker, call) ∷ []) plays.in_order
+        ∙ sym (ap (turns_of worker) (take_more script i call within ∙ ap (λ c. take i script ++ c ∷ []) (sym here)) ∙ map-append (λ (c : Call). (worker, c)) (take i script) (call ∷ []));
+    keeps = All-push (λ r. r.writes ≡ []) rows the_row plays.keeps refl;
+    names = All-push (λ r. NamesRail board r.call) rows the_row plays.names names;
+    rails = All-push (λ r. HasRails board r.answer) rows the_row plays.rails performs.rails;
+    moves =
+        performs.updates ∙ ap (λ t. with_more t (map update_of (writes_of board (made_of (stop_of said) (plan board now worker call))))) plays.moves
+        ∙ with_more-with_more told (map update_of (moved board plain worker rows)) (map update_of (writes_of board (made_of (stop_of said) (plan board now worker call))))
+        ∙ ap (with_more told) (sym (map-append update_of (moved board plain worker rows) (writes_of board (made_of (stop_of said) (plan board now worker call)))) ∙ ap (map update_of) (sym moved_more));
+    faults = subst (RoseBy count count') (sym (faults_of-push worker line call said rows))
+        (RoseBy-trans count between count' (faults_of worker rows) (cond (is_fault said) 1 0) plays.faults (rose_by said between count' performs.faults));
+  }

@@ -1,0 +1,10 @@
+use Rattle.regulator_main.proofs.Prefixes.{suffix_some, suffix_none}
+use Rattle.regulator_main.proofs.split.before_suffix.Goals as goal
+
+pub returns-clause-some : goal.returns-clause-some
+returns-clause-some c =
+    suffix_some c.args.text.now c.args.suffix.now c.strip_suffix.result c.strip_suffix.ensures.cases
+
+pub returns-clause-none : goal.returns-clause-none
+returns-clause-none c =
+    suffix_none c.args.text.now c.args.suffix.now c.strip_suffix.result c.strip_suffix.ensures.cases

@@ -1,0 +1,29 @@
+use Rattle.std.proofs.Common.{sym, ap, ◌∙◌}
+use Rattle.std.specs.Option.{option_map}
+use Rattle.linear_range.specs.Pick.{pair_of}
+use Rattle.regulator_main.proofs.Steps.{IsAbove, above-is, some_above, is_there, first_allowed}
+use Rattle.regulator_main.proofs.walk.above.Goals as goal
+use Rattle.regulator_main.proofs.walk.above.Goals.{After-unwrap}
+
+pub unwrap-requires : goal.unwrap-requires
+unwrap-requires c = is_there c.at_or_above.result _ c.at_or_above.ensures.pick (some_above c.args.rail.now c.args.from c.args.target c.requires.allowed c.requires.rising)
+
+found : (c : After-unwrap) → IsAbove c.args.rail.now c.args.from c.args.target (pair_of c.unwrap.result)
+found c =
+    above-is c.args.rail.now c.args.from c.args.target c.requires.allowed (pair_of c.unwrap.result) c.requires.rising
+    (sym c.at_or_above.ensures.pick ∙ ap (option_map pair_of) c.unwrap.ensures)
+
+pub returns-clause-next : goal.returns-clause-next
+returns-clause-next c = (found (goal.at.returns-clause-next c).After-unwrap).next
+
+pub returns-clause-first : goal.returns-clause-first
+returns-clause-first c = (found (goal.at.returns-clause-first c).After-unwrap).first
+
+pub returns-clause-nearer : goal.returns-clause-nearer
+returns-clause-nearer c = (found (goal.at.returns-clause-nearer c).After-unwrap).nearer
+
+pub returns-clause-not_past : goal.returns-clause-not_past
+returns-clause-not_past c = (found (goal.at.returns-clause-not_past c).After-unwrap).not_past
+
+pub returns-clause-lawful : goal.returns-clause-lawful
+returns-clause-lawful c = first_allowed c.args.rail.now (pair_of c.unwrap.result) (found (goal.at.returns-clause-lawful c).After-unwrap).first

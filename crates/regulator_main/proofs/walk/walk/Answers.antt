@@ -1,0 +1,56 @@
+use Rattle.std.proofs.Common.{◌≡◌, ◌∷◌, [], Some, refl, sym, ap, ◌∙◌, arith, List, drop}
+use Rattle.std.specs.Int.{abs_diff}
+use Rattle.linear_range.specs.Pick.{pair_of}
+use Rattle.chip_regs.specs.Field.{FitsField}
+use Rattle.board.specs.declared.part.Part.TheVariants.{Selector}
+use Rattle.board.specs.Rail.{uv, allowed}
+use Rattle.plain_board.specs.Moves.{Move, moves_to, selector_for}
+use Rattle.regulator_main.proofs.Walked.{walked_none, walked_more, rest_more, walked_all, within_from_rest, selector_for-first, field_of_selector, choice_fits, fits_byte, uv_written, moves_to-step, moves_to-same}
+use Rattle.regulator_main.proofs.walk.walk.Given as given
+use Rattle.regulator_main.proofs.walk.walk.Goals as goal
+use Rattle.regulator_main.proofs.walk.walk.Goals.{After-toward-pick}
+
+-- the selector that is written fits its field
+fits : (g : given.Over) (c : After-toward-pick g) → FitsField c.args.field c.toward-pick.result.sel
+fits g c = choice_fits c.args.rail.now c.args.field (pair_of c.toward-pick.result) c.requires.selector c.requires.sound.selectors c.toward-pick.ensures.first
+
+-- the next move
+abbrev move : (g : given.Over) (c : After-toward-pick g) → Move
+move g c = record { rail = c.args.id; part = Selector; bits = selector_for c.args.rail.now c.toward-pick.result.uv }
+
+pub write_field-requires-clause-fits : goal.write_field-requires-clause-fits
+write_field-requires-clause-fits g c = fits g (goal.at.write_field-requires-clause-fits g c).After-toward-pick
+
+pub overflow_cast-pick : goal.overflow_cast-pick
+overflow_cast-pick g c = let below = fits_byte c.args.field c.toward-pick.result.sel (fits g (goal.at.overflow_cast-pick g c).After-toward-pick) (omega arith) in omega arith
+
+-- the moves that are left begin with the next one
+next_left : (g : given.Over) (c : After-toward-pick g) →
+    drop c.loop-at.made (moves_to c.args.id c.args.rail.now (uv c.args.rail.now c.args.regs.now) c.args.target)
+    ≡ move g c ∷ moves_to c.args.id c.args.rail.now c.toward-pick.result.uv c.args.target
+next_left g c = sym c.loop-at.invariant.rest ∙ moves_to-step c.args.id c.args.rail.now c.loop-at.at c.toward-pick.result.uv c.args.target c.toward-pick.ensures.next
+
+pub loop-at-preserved : goal.loop-at-preserved
+loop-at-preserved g c =
+    let d = (goal.at.loop-at-preserved g c).After-toward-pick in
+    let moves = moves_to c.args.id c.args.rail.now (uv c.args.rail.now c.args.regs.now) c.args.target in
+    let rest = moves_to c.args.id c.args.rail.now c.toward-pick.result.uv c.args.target in
+    let done = c.in-Ok.ensures in
+    let field_is = field_of_selector c.args.board.now c.args.id c.args.rail.now c.args.field (selector_for c.args.rail.now c.toward-pick.result.uv) c.requires.place c.requires.selector in
+    let sel_is = selector_for-first c.args.rail.now (pair_of c.toward-pick.result) c.toward-pick.ensures.first in
+    record {
+      walked = walked_more c.args.board.now moves c.args.regs.now c.loop-at.regs c.write_field.new.regs (g.W.Wire.accepted c.args.wire.now) (g.W.Wire.accepted c.loop-at.wire) (g.W.Wire.accepted c.write_field.new.wire) c.loop-at.made (move g d) rest
+          c.loop-at.invariant.walked (next_left g d) (rw (field_is, sel_is) done.registers) (rw (field_is, sel_is) done.told);
+      rest = rest_more moves c.loop-at.made (move g d) rest (next_left g d);
+      lawful = c.toward-pick.ensures.lawful;
+      at = uv_written c.args.rail.now c.args.field c.write_field.new.regs c.toward-pick.result.sel c.toward-pick.result.uv c.requires.selector done.reads (c.toward-pick.ensures.value c.requires.changeable);
+      counted = done.counted ∙ c.loop-at.invariant.counted;
+      chips = done.chips ∙ c.loop-at.invariant.chips;
+      bound = omega (arith, c.toward-pick.ensures.nearer, c.loop-at.invariant.bound);
+    }
+
+pub returns-clause-there : goal.returns-clause-there
+returns-clause-there g c =
+    let there : c.loop-at.at ≡ c.args.target = c.loop-at-test.false in
+    walked_all c.args.board.now _ c.args.regs.now c.loop-at.regs (g.W.Wire.accepted c.args.wire.now) (g.W.Wire.accepted c.loop-at.wire) c.loop-at.made c.loop-at.invariant.walked
+    (sym c.loop-at.invariant.rest ∙ ap (λ v. moves_to c.args.id c.args.rail.now v c.args.target) there ∙ moves_to-same c.args.id c.args.rail.now c.args.target)

@@ -1,0 +1,11 @@
+pub mod Demo
+pub mod Desk
+pub mod Frame
+pub mod Front
+pub mod Input
+pub mod Lines
+pub mod Reading
+pub mod Script
+pub mod Session
+pub mod Walk
+pub mod Words

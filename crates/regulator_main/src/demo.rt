@@ -1,0 +1,113 @@
+ghost use Rattle.std.specs.Prelude.{◌≡◌, IfOk, codes};
+ghost use Rattle.board.specs.Valid.{IsValid};
+ghost use Rattle.plain_board.specs.Inv.{Inv};
+ghost use Rattle.regulator_main.specs.Demo.{IsCore, IsDemo, core_ranges, demo_regs, demo_plain};
+
+use board::{Board, Constraints, Desc, Name, Rail, Table};
+use chip_regs::{Field, Regs};
+use item_list::Items;
+use linear_range::{LinearRange, RangeTable};
+use plain_board::Plain;
+use ramp_delay::Times;
+use std::alloc::{AllocError, Global};
+
+/// The voltages of `core`.
+fn core_table() -> RangeTable<8>
+    ensures { result ≡ core_ranges }
+{
+    let range = LinearRange {
+        min: 600000,
+        min_sel: 0,
+        max_sel: 127,
+        step: 6250,
+    };
+    RangeTable::new(&[range]).unwrap()
+}
+
+fn core_name() -> Name
+    ensures { result.bytes ≡ codes "core" }
+{
+    Name::from("core").unwrap()
+}
+
+/// The rail `core`.
+fn core() -> Rail
+    ensures { IsCore result }
+{
+    Rail {
+        name: core_name(),
+        desc: Desc {
+            table: Table::Ranges(core_table()),
+            selector: Some(Field {
+                chip: 0,
+                reg: 0x10,
+                mask: 0x7f,
+                shift: 0,
+            }),
+            enable: Field {
+                chip: 0,
+                reg: 0x20,
+                mask: 0x01,
+                shift: 0,
+            },
+            ramp: 12500,
+        },
+        limits: Constraints {
+            bounds: Some((800000, 1000000)),
+            times: Times::default(),
+        },
+        supply: None,
+        changeable: true,
+        kept_uv: 800000,
+    }
+}
+
+/// The registers of the chip after a reset.
+fn reset_regs(alloc: Global) -> Result<Regs, AllocError>
+    ensures { IfOk result (λ regs. regs ≡ demo_regs) }
+{
+    let mut regs = Regs::new(alloc, 1)?;
+    regs.set_byte(0, 0x10, 0x20);
+    regs.set_byte(0, 0x11, 0x20);
+    regs.set_byte(0, 0x30, 0x15);
+    Ok(regs)
+}
+
+/// The board `demo`.
+fn demo_board(alloc: Global) -> Result<Board, AllocError>
+    ensures { IfOk result IsDemo }
+{
+    let mut rails = Items::new(alloc);
+    rails.push(core())?;
+    Ok(Board { rails, chips: 1 })
+}
+
+/// Its plain board.
+fn demo_plain(alloc: Global) -> Result<Plain, AllocError>
+    ensures { IfOk result (λ plain. plain ≡ demo_plain) }
+{
+    let regs = reset_regs(alloc)?;
+    let mut holds = Items::new(alloc);
+    holds.push(false)?;
+    let mut events = Items::new(alloc);
+    events.push(Items::new(alloc))?;
+    Ok(Plain {
+        regs,
+        handles: Items::new(alloc),
+        holds,
+        suspended: false,
+        events,
+    })
+}
+
+/// The built-in board, one chip with the rail `core`, and its plain board after the load.
+pub(crate) fn demo(alloc: Global) -> Result<(Board, Plain), AllocError>
+    ensures demo { IfOk result (λ made. IsDemo made.0) }
+    ensures plain { IfOk result (λ made. made.1 ≡ demo_plain) }
+    ensures valid { IfOk result (λ made. IsValid made.0) }
+    ensures inv { IfOk result (λ made. Inv made.0 made.1) }
+{
+    let board = demo_board(alloc)?;
+    let plain = demo_plain(alloc)?;
+    Ok((board, plain))
+}

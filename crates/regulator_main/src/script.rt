@@ -1,0 +1,46 @@
+ghost use Rattle.std.specs.Prelude.{◌≡◌, ◌≤◌, ◌+◌, ℕ, length, IfOk, OnOk, All};
+ghost use Rattle.board.specs.Valid.{IsValid};
+ghost use Rattle.plain_board.specs.History.{NamesRail, replay};
+ghost use Rattle.plain_board.specs.Inv.{Inv};
+ghost use Rattle.regulator_main.specs.Script.{PlaysScript};
+
+use crate::desk::perform;
+use board::Board;
+use item_list::Items;
+use plain_board::{Call, Plain, Row};
+use reg_outside::Wire;
+use std::alloc::{AllocError, Global};
+
+/// Runs a worker's script from its first line to its last, and gives its rows.
+pub(crate) fn run_script<W: Wire>(
+    alloc: Global,
+    board: &Board,
+    plain: &mut Plain,
+    wire: &mut W,
+    worker: u16,
+    script: &[Call],
+) -> Result<Vec<Row>, AllocError>
+    requires valid { IsValid board.now }
+    requires inv { Inv board.now plain.old }
+    requires rails { All (NamesRail board.now) script.now }
+    requires short { length script.now ≤ 4096 }
+    ensures plays { IfOk result (λ rows. PlaysScript board.now plain.old worker script.now rows.items (W.accepted wire.old) (W.accepted wire.new) (W.faults wire.old) (W.faults wire.new)) }
+    ensures replayed { IfOk result (λ rows. plain.new ≡ replay board.now plain.old rows.items) }
+    ensures inv { OnOk result (Inv board.now plain.new) }
+    ensures handles { OnOk result (length plain.new.handles ≤ length plain.old.handles + length script.now) }
+{
+    let mut rows = Vec::with_capacity(alloc, script.len())?;
+    let mut line = 0;
+    for call in script {
+        line += 1;
+        let answer = perform(alloc, board, plain, wire, worker, call)?;
+        rows.push(Row {
+            worker,
+            line,
+            call: *call,
+            answer,
+            writes: Items::new(alloc),
+        })?;
+    }
+    Ok(rows)
+}

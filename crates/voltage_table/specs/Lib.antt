@@ -1,0 +1,5 @@
+pub mod Values
+pub mod ListPick
+pub mod VoltList
+pub mod ListFault
+pub mod Laws
