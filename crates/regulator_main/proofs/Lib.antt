@@ -4,6 +4,7 @@ mod Bounds
 mod CallLines
 mod DemoFacts
 mod Frames
+mod Fronts
 mod Leaves
 mod LineLaws
 mod Names
@@ -19,6 +20,7 @@ mod Separators
 mod SessionLaws
 mod Set
 mod SetupLines
+mod Sole
 mod Spaces
 mod Steps
 mod Stopped

@@ -1,5 +1,6 @@
 pub mod Demo
 pub mod Desk
+pub mod Ended
 pub mod Frame
 pub mod Front
 pub mod Input

@@ -2,6 +2,7 @@
 #![tactic(auto)]
 
 mod calls;
+mod commands;
 mod demo;
 mod desk;
 mod fault;
@@ -19,6 +20,10 @@ mod split;
 mod status;
 mod walk;
 
+pub use commands::{front, top};
 pub use fault::{SessionFault, SessionKind};
 pub use laws::one_reading;
 pub use status::{Status, code};
+
+#[cfg(test)]
+mod tests;
