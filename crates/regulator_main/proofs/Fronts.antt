@@ -1,9 +1,8 @@
 -- What follows for a caller from the way in which a command on a session ended.
-use Rattle.std.proofs.Common.{◌≡◌, ◌≢◌, ℕ, ◌+◌, ◌<◌, ◌≤◌, ◌⊎◌, inl, inr, ⊎_elim, List, [], ◌∷◌, ◌++◌, Option, Some, None, refl, sym, subst, ap, ◌∙◌, append-nil, arith, length, length-append}
+use Rattle.std.proofs.Common.{◌≡◌, ◌≢◌, ℕ, ◌<◌, ◌≤◌, ◌⊎◌, inl, inr, ⊎_elim, List, ◌++◌, Option, Some, None, refl, sym, subst, ap, ◌∙◌, append-nil, arith, length, length-append}
 use Rattle.std.proofs.lemmas.Bool.{cases_lt}
 use Rattle.reg_outside.specs.Count.{Rose, Stayed}
 use Rattle.reg_outside.specs.CountFacts.{Rose-not_Stayed}
-use Rattle.reg_outside.specs.Told.{with_before}
 use Rattle.plain_board.specs.declared.call.Call.{Call}
 use Rattle.plain_board.specs.Text.{printed}
 use Rattle.regulator_main.specs.declared.fault.SessionFault.{SessionFault}
@@ -12,9 +11,8 @@ use Rattle.regulator_main.specs.declared.fault.SessionKind.TheVariants.{TooLong,
 use Rattle.regulator_main.specs.declared.status.Status.{Status}
 use Rattle.regulator_main.specs.declared.status.Status.TheVariants.{Done, Memory, Words, ReadFault, WriteFault, SessionRefused}
 use Rattle.regulator_main.specs.Demo.{demo_plain}
-use Rattle.regulator_main.specs.Ended.{Input, Output, Wires, SentWhole, SentPart, Sent, NotSent, Played, RanSession, Refused, Answered, Heard, NotHeard, Ended}
-use Rattle.regulator_main.specs.Front.{Reads, Plays, Refuses, Whole, CutAt, IfRefused, IfWriteFault}
-use Rattle.regulator_main.specs.Input.{TookAtMost}
+use Rattle.regulator_main.specs.Ended.{Input, Output, Wires, Sent, RanSession, Refused, Answered, Ended}
+use Rattle.regulator_main.specs.Front.{Reads, Plays, Refuses, Whole, CutAt}
 use Rattle.regulator_main.specs.Session.{session_limit, IsSession, HasFault, FirstFault, refusal_text}
 use Rattle.regulator_main.proofs.SessionLaws.{sessions_have_no_fault, one_fault}
 
@@ -32,11 +30,11 @@ much_read bytes input None reads long = absurd (cc reads.taken)
 much_read bytes input (Some rest) reads long =
     let parts : bytes ≡ input ++ rest = cc reads.taken in
     ⊎_elim
-        (λ (is : session_limit < length input). is)
-        (λ (within : length input ≤ session_limit).
-            let whole : bytes ≡ input = parts ∙ ap (λ r. input ++ r) (reads.end within) ∙ append-nil input in
-            absurd (omega (arith, long, within, ap length whole)))
-        (cases_lt session_limit (length input))
+    (λ (is : session_limit < length input). is)
+    (λ (within : length input ≤ session_limit).
+    let whole : bytes ≡ input = parts ∙ ap (λ r. input ++ r) (reads.end within) ∙ append-nil input in
+    absurd (omega (arith, long, within, ap length whole)))
+    (cases_lt session_limit (length input))
 
 -- texts that are both too long have the same fault
 too_long : (bytes other : List ℕ) (line : ℕ) (kind : SessionKind) → session_limit < length bytes → session_limit < length other → HasFault bytes line kind → HasFault other line kind
@@ -50,9 +48,9 @@ too_long bytes other line no_memory long more fault = absurd (omega (arith, long
 fault_read : (bytes input : List ℕ) (left' : Option (List ℕ)) (fault : SessionFault) → Reads (Some bytes) left' input → FirstFault bytes fault → FirstFault input fault
 fault_read bytes input left' fault reads first =
     ⊎_elim
-        (λ (long : session_limit < length bytes). too_long bytes input fault.line fault.kind long (much_read bytes input left' reads long) first)
-        (λ (short : length bytes ≤ session_limit). subst (λ b. FirstFault b fault) (all_read bytes input left' reads short) first)
-        (cases_lt session_limit (length bytes))
+    (λ (long : session_limit < length bytes). too_long bytes input fault.line fault.kind long (much_read bytes input left' reads long) first)
+    (λ (short : length bytes ≤ session_limit). subst (λ b. FirstFault b fault) (all_read bytes input left' reads short) first)
+    (cases_lt session_limit (length bytes))
 
 module _ (i i' : Input) (o o' : Output) (w w' : Wires) where
   -- the history that was printed, as far as it was written
@@ -75,22 +73,61 @@ module _ (i i' : Input) (o o' : Output) (w w' : Wires) where
   Stands (SessionRefused fault) = Refuses i.left i'.left fault WroteWhole × (fault.kind ≢ no_memory) × (w' ≡ w) × (i'.faults ≡ i.faults) × (o'.faults ≡ o.faults)
 
   stands_run : (s : Status) (bytes : List ℕ) → Reads i.left i'.left bytes → i'.faults ≡ i.faults → (ran : RanSession bytes o o' w w' s) → Sent o o' (printed ran.played.board demo_plain ran.played.rows (length ran.scripts)) Done s → Stands s
-  stands_run s bytes read count ran (inl whole) = subst Stands (sym whole.ends) (record {
-    input = bytes; scripts = ran.scripts; board = ran.played.board; rows = ran.played.rows;
-    read = read; session = ran.session; run = ran.played.run; wrote = whole.wrote;
-  }, count, whole.count)
-  stands_run s bytes read count ran (inr part) = subst Stands (sym part.ends) (part.rose, inl (record {
-    input = bytes; scripts = ran.scripts; board = ran.played.board; rows = ran.played.rows;
-    read = read; session = ran.session; run = ran.played.run; wrote = part.wrote;
-  }), count)
+  stands_run s bytes read count ran (inl whole) = subst Stands (sym whole.ends) (
+    record {
+      input = bytes;
+      scripts = ran.scripts;
+      board = ran.played.board;
+      rows = ran.played.rows;
+      read = read;
+      session = ran.session;
+      run = ran.played.run;
+      wrote = whole.wrote;
+    },
+    count,
+    whole.count,
+  )
+  stands_run s bytes read count ran (inr part) = subst Stands (sym part.ends) (
+    part.rose,
+    inl (record {
+      input = bytes;
+      scripts = ran.scripts;
+      board = ran.played.board;
+      rows = ran.played.rows;
+      read = read;
+      session = ran.session;
+      run = ran.played.run;
+      wrote = part.wrote;
+    }),
+    count,
+  )
 
   stands_refused : (s : Status) (bytes : List ℕ) → Reads i.left i'.left bytes → i'.faults ≡ i.faults → (refused : Refused bytes o o' w w' s) → Sent o o' (refusal_text refused.fault) (SessionRefused refused.fault) s → Stands s
-  stands_refused s bytes read count refused (inl whole) = subst Stands (sym whole.ends) (record {
-    input = bytes; read = read; first = refused.first; wrote = whole.wrote;
-  }, refused.known, refused.wires_stay, count, whole.count)
-  stands_refused s bytes read count refused (inr part) = subst Stands (sym part.ends) (part.rose, inr (refused.fault, record {
-    input = bytes; read = read; first = refused.first; wrote = part.wrote;
-  }), count)
+  stands_refused s bytes read count refused (inl whole) = subst Stands (sym whole.ends) (
+    record {
+      input = bytes;
+      read = read;
+      first = refused.first;
+      wrote = whole.wrote;
+    },
+    refused.known,
+    refused.wires_stay,
+    count,
+    whole.count,
+  )
+  stands_refused s bytes read count refused (inr part) = subst Stands (sym part.ends) (
+    part.rose,
+    inr (
+      refused.fault,
+      record {
+        input = bytes;
+        read = read;
+        first = refused.first;
+        wrote = part.wrote;
+      },
+    ),
+    count,
+  )
 
   stands_answered : (s : Status) (bytes : List ℕ) → Reads i.left i'.left bytes → i'.faults ≡ i.faults → Answered bytes o o' w w' s → Stands s
   stands_answered s bytes read count (inl none) = subst Stands (sym none.ends) (ap (λ (out : Output). out.written) none.output, count, ap (λ (out : Output). out.faults) none.output)

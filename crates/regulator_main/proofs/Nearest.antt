@@ -1,8 +1,8 @@
 -- What a pick among pairs of a selector and a value says of the values.
-use Rattle.std.proofs.Common.{◌≡◌, ℕ, Bool, true, false, ◌&&◌, ◌||◌, cond, eqb, leb, ltb, eqb-true, eq-eqb, List, [], ◌∷◌, Option, Some, None, refl, sym, subst, ap, ◌∙◌, arith, map, filter, find}
+use Rattle.std.proofs.Common.{◌≡◌, ℕ, Bool, true, false, ◌&&◌, ◌||◌, cond, eqb, leb, eqb-true, eq-eqb, List, [], ◌∷◌, Option, Some, None, refl, sym, subst, ap, ◌∙◌, arith, map, filter, find}
 use Rattle.std.proofs.lemmas.Bool.{false≢true}
 use Rattle.std.proofs.lemmas.Bool.Decides.{nat_tests}
-use Rattle.linear_range.specs.Values.{least_pair, greatest_pair, lesser_pair, greater_pair, pick_high, pick_low}
+use Rattle.linear_range.specs.Values.{least_pair, greatest_pair, lesser_pair, greater_pair}
 use Rattle.regulator_main.proofs.Ordered.{has, has-filter, or_true}
 use Rattle.regulator_main.proofs.Way.{left_true}
 

@@ -1,5 +1,5 @@
 -- A list in the order of a test, each number once, is known by its numbers.
-use Rattle.std.proofs.Common.{◌≡◌, ℕ, Bool, true, false, not, ◌&&◌, ◌||◌, cond, eqb, ltb, eqb-true, eq-eqb, List, [], ◌∷◌, refl, sym, subst, ap, ◌∙◌, arith, filter}
+use Rattle.std.proofs.Common.{◌≡◌, ℕ, Bool, true, false, ◌&&◌, ◌||◌, cond, eqb, ltb, eqb-true, eq-eqb, List, [], ◌∷◌, refl, sym, subst, ap, ◌∙◌, arith, filter}
 use Rattle.std.specs.List.{list_any}
 use Rattle.std.proofs.lemmas.Bool.{false≢true}
 use Rattle.std.proofs.lemmas.Bool.Decides.{nat_tests}

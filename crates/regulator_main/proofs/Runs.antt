@@ -1,6 +1,6 @@
 -- One run of the scripts, from what each worker's run says.
-use Rattle.std.proofs.Common.{◌≡◌, ◌≢◌, ℕ, ◌+◌, ◌<◌, ◌≤◌, Bool, true, false, eqb, List, [], ◌∷◌, ◌++◌, Option, refl, sym, subst, ap, ◌∙◌, append-nil, arith, map, filter, length, get_or}
-use Rattle.std.specs.Prelude.{All, option_map}
+use Rattle.std.proofs.Common.{◌≡◌, ◌≢◌, ℕ, ◌<◌, ◌≤◌, Bool, true, false, eqb, List, [], ◌∷◌, Option, refl, sym, subst, ap, ◌∙◌, append-nil, arith, map, length, get_or}
+use Rattle.std.specs.Prelude.{option_map}
 use Rattle.std.proofs.lemmas.Bool.Decides.{nat_tests}
 use Rattle.std.proofs.lemmas.List.Elements.{All-nil}
 use Rattle.reg_outside.specs.Count.{RoseBy}
@@ -9,9 +9,9 @@ use Rattle.board.specs.declared.board.Board.{Board}
 use Rattle.plain_board.specs.declared.call.Call.{Call}
 use Rattle.plain_board.specs.declared.plain.Plain.{Plain}
 use Rattle.plain_board.specs.declared.row.Row.{Row}
-use Rattle.plain_board.specs.History.{rows_of, faults_of, moved, is_fault}
+use Rattle.plain_board.specs.History.{rows_of, faults_of, moved}
 use Rattle.regulator_main.specs.Demo.{IsDemo, demo_plain}
-use Rattle.regulator_main.specs.Front.{turns, Runs}
+use Rattle.regulator_main.specs.Front.{Runs}
 use Rattle.regulator_main.specs.Script.{Loads, turn_of, turns_of, PlaysWorker}
 use Rattle.regulator_main.specs.Walk.{Updates, update_of}
 

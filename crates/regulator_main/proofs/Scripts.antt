@@ -1,6 +1,6 @@
 -- A script, one row more at a time.
-use Rattle.std.proofs.Common.{◌≡◌, ℕ, ◌+◌, ◌<◌, ◌≤◌, ◌⊎◌, inl, inr, Bool, true, false, cond, eqb, ltb, eq-eqb, List, [], ◌∷◌, ◌++◌, Option, Some, None, refl, sym, subst, ap, ◌∙◌, append_assoc, append-nil, zero-add, arith, map, filter, length, get_or, take}
-use Rattle.std.specs.Prelude.{All, count_by}
+use Rattle.std.proofs.Common.{◌≡◌, ℕ, ◌+◌, ◌<◌, inl, true, cond, eqb, ltb, eq-eqb, List, [], ◌∷◌, ◌++◌, Option, Some, None, refl, sym, subst, ap, ◌∙◌, append_assoc, append-nil, zero-add, arith, map, length, get_or, take}
+use Rattle.std.specs.Prelude.{count_by}
 use Rattle.std.proofs.lemmas.Bool.Decides.{nat_tests}
 use Rattle.std.proofs.lemmas.List.{take_more, map-append}
 use Rattle.std.proofs.lemmas.List.Elements.{All-push, filter-append}
@@ -8,7 +8,7 @@ use Rattle.std.proofs.lemmas.List.Sums.{sum_by-append}
 use Rattle.reg_outside.specs.Count.{RoseBy}
 use Rattle.reg_outside.specs.CountFacts.{RoseBy-zero, RoseBy-trans}
 use Rattle.reg_outside.specs.Told.{with_more}
-use Rattle.reg_outside.specs.ToldFacts.{with_more-nil, with_more-with_more}
+use Rattle.reg_outside.specs.ToldFacts.{with_more-with_more}
 use Rattle.board.specs.declared.board.Board.{Board}
 use Rattle.board.specs.declared.write.Write.{Write}
 use Rattle.plain_board.specs.declared.answer.Answer.{Answer}
@@ -17,7 +17,7 @@ use Rattle.plain_board.specs.declared.call.Call.{Call}
 use Rattle.plain_board.specs.declared.plain.Plain.{Plain}
 use Rattle.plain_board.specs.declared.row.Row.{Row}
 use Rattle.plain_board.specs.Answer.{answer, plan}
-use Rattle.plain_board.specs.History.{stop_of, IsWithinPlan, made_of, moves_of, after_stop, after, replay, NamesRail, rows_of, IsNext, legal_after, IsLegal, KeepsNone, moved, is_fault, faults_of}
+use Rattle.plain_board.specs.History.{stop_of, IsWithinPlan, made_of, moves_of, after_stop, after, replay, NamesRail, rows_of, IsNext, legal_after, moved, is_fault, faults_of}
 use Rattle.plain_board.specs.Moves.{writes_of}
 use Rattle.plain_board.specs.Text.{HasRails}
 use Rattle.regulator_main.specs.Desk.{Performs, CountsFault}

@@ -1,5 +1,5 @@
 -- A rail's next value on its way.
-use Rattle.std.proofs.Common.{◌≡◌, ℕ, ◌+◌, ◌-◌, ◌≤◌, ◌<◌, Bool, true, false, cond, eqb, leb, ltb, List, [], ◌∷◌, Option, Some, None, refl, sym, subst, ap, ◌∙◌, arith, find}
+use Rattle.std.proofs.Common.{◌≡◌, ℕ, ◌+◌, ◌-◌, ◌≤◌, ◌<◌, Bool, true, false, cond, leb, ltb, List, [], ◌∷◌, Option, Some, None, refl, sym, ap, ◌∙◌, arith}
 use Rattle.std.proofs.lemmas.Bool.Decides.{nat_tests}
 use Rattle.std.specs.Option.{option_map, IsSome}
 use Rattle.linear_range.specs.declared.pick.Pick.{Pick}
@@ -10,7 +10,7 @@ use Rattle.board.specs.Rail.{allowed, choices, IsAllowed}
 use Rattle.plain_board.specs.Moves.{stretch, way}
 use Rattle.regulator_main.proofs.Ordered.{has, upward, downward}
 use Rattle.regulator_main.proofs.Way.{stretch-step, stretch-same}
-use Rattle.regulator_main.proofs.Nearest.{lowest, highest, best, least_pair-is, greatest_pair-is, best_passes, best_among, best_first, best_preferred, best_some, find-has, IsFirst}
+use Rattle.regulator_main.proofs.Nearest.{lowest, highest, least_pair-is, greatest_pair-is, best_passes, best_among, best_first, best_preferred, best_some, find-has, IsFirst}
 
 way-rising : (values : List ℕ) (from to : ℕ) → leb from to ≡ true → way values from to ≡ stretch ltb values from to
 way-rising values from to rising = rw rising

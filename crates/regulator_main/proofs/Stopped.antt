@@ -1,5 +1,5 @@
 -- What a refused move leaves.
-use Rattle.std.proofs.Common.{◌≡◌, Bool, true, false, cond, eqb, ℕ, ◌+◌, ◌<◌, zero, suc, List, [], ◌∷◌, Option, Some, None, refl, sym, subst, ap, ◌∙◌, arith, map, length, take}
+use Rattle.std.proofs.Common.{◌≡◌, true, false, cond, eqb, ℕ, ◌<◌, zero, suc, List, [], ◌∷◌, Some, refl, subst, ap, ◌∙◌, arith, map, length, take}
 use Rattle.std.specs.Prelude.{slice_get, unwrap_or, option_map, All}
 use Rattle.std.proofs.lemmas.List.{length-map}
 use Rattle.std.proofs.lemmas.List.Elements.{All-nil, All-cons}
@@ -11,7 +11,6 @@ use Rattle.board.specs.declared.rail_id.RailId.{RailId}
 use Rattle.board.specs.declared.write.Write.{Write}
 use Rattle.board.specs.declared.part.Part.TheVariants.{Selector}
 use Rattle.board.specs.Rail.{uv, allowed}
-use Rattle.plain_board.specs.declared.answer.Answer.{Answer}
 use Rattle.plain_board.specs.declared.answer.Answer.TheVariants.{Fault}
 use Rattle.plain_board.specs.declared.plain.Plain.{Plain}
 use Rattle.plain_board.specs.Answer.{Grip, stopped, changed, with_request, kept_request, no_write}

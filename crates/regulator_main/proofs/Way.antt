@@ -1,9 +1,7 @@
 -- The way of a rail, one value at a time.
-use Rattle.std.proofs.Common.{◌≡◌, ℕ, ◌≤◌, ◌<◌, Bool, true, false, not, ◌&&◌, ◌||◌, cond, eqb, leb, ltb, eqb-true, eq-eqb, List, [], ◌∷◌, refl, sym, subst, ap, ◌∙◌, arith, filter}
-use Rattle.std.proofs.lemmas.Bool.{false≢true}
-use Rattle.std.proofs.lemmas.Bool.Decides.{nat_tests}
-use Rattle.plain_board.specs.Moves.{in_order, stretch, way}
-use Rattle.regulator_main.proofs.Ordered.{has, IsOrder, upward, downward, Leads, Chain, Chain-in_order, has-in_order, has-filter, leads_all, same_chain, and_false}
+use Rattle.std.proofs.Common.{◌≡◌, ℕ, Bool, true, false, not, ◌&&◌, ◌||◌, cond, eqb, eqb-true, List, [], ◌∷◌, refl, sym, ap, ◌∙◌, filter}
+use Rattle.plain_board.specs.Moves.{in_order, stretch}
+use Rattle.regulator_main.proofs.Ordered.{has, IsOrder, Chain-in_order, has-in_order, has-filter, leads_all, same_chain, and_false}
 
 pub left_true : (a b : Bool) → (a && b) ≡ true → a ≡ true
 left_true true b is = refl

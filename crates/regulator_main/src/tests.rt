@@ -243,7 +243,8 @@ fn the_wire_refuses(rt: HostRuntime) -> Result<(), Fail> {
     let mut lab = MemLab::new(alloc, 1, 1)?;
     let status = solo(alloc, text.as_str(), &mut sink, &mut lab)?;
     assert_eq!(rt; status, Status::Done);
-    let printed = b"1 1 open a core -> ok\n1 2 set a 900001 950000 -> fault 0 0x10 1 core 806250\n1 3 set a 800000 800000 -> fault 0 0x10 0\n1 4 get a -> ok 806250\nrail core off 806250 normal use 0 enables 0\ndone 1 4\n";
+    let printed =
+        b"1 1 open a core -> ok\n1 2 set a 900001 950000 -> fault 0 0x10 1 core 806250\n1 3 set a 800000 800000 -> fault 0 0x10 0\n1 4 get a -> ok 806250\nrail core off 806250 normal use 0 enables 0\ndone 1 4\n";
     assert_eq!(rt; sink.bytes(), printed.as_slice());
     assert_eq!(rt; lab.list(0).len(), 0);
     assert_eq!(rt; lab.list(1), [(0, 0x10, 0x7f, 33)].as_slice());

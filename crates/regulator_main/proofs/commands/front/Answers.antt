@@ -1,4 +1,3 @@
-use Rattle.std.proofs.Common.{◌≡◌}
 use Rattle.regulator_main.specs.Ended.{Input, Output, Wires}
 use Rattle.regulator_main.proofs.Fronts.{session_run, fault_told}
 use Rattle.regulator_main.proofs.commands.front.Goals as goal

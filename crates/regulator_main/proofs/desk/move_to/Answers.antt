@@ -1,4 +1,4 @@
-use Rattle.std.proofs.Common.{◌≡◌, ◌<◌, length, subst, sym, refl, ap, ◌∙◌, arith}
+use Rattle.std.proofs.Common.{◌≡◌, ◌<◌, length, subst, sym, ap, ◌∙◌}
 use Rattle.std.specs.Prelude.{All}
 use Rattle.board.specs.Rail.{uv}
 use Rattle.plain_board.specs.Answer.{Grip, changed, kept_request, with_request}

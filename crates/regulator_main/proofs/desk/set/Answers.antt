@@ -1,9 +1,9 @@
-use Rattle.std.proofs.Common.{◌≡◌, ℕ, ◌∷◌, Some, None, true, false, ltb, sym, refl, subst, ap, ◌∙◌, arith, length, filter}
+use Rattle.std.proofs.Common.{◌≡◌, ℕ, ◌∷◌, Some, false, ltb, sym, subst, ap, ◌∙◌, arith}
 use Rattle.std.specs.Prelude.{slice_get, position, filter_map}
 use Rattle.std.specs.List.{list_all}
 use Rattle.std.proofs.lemmas.Result.{IfOk-weaker, on_ok_weaker}
 use Rattle.std.proofs.lemmas.Bool.Decides.{nat_tests}
-use Rattle.board.specs.Rail.{allowed, is_within, least, uv, IsAllowed}
+use Rattle.board.specs.Rail.{uv, IsAllowed}
 use Rattle.board.specs.Valid.{IsSoundRail}
 use Rattle.plain_board.specs.Answer.{Grip, grip_of, target_of}
 use Rattle.plain_board.specs.Requests.{is_own, asks, meets}
@@ -59,8 +59,8 @@ returns-clause-performs g c =
     let d = (goal.at.returns-clause-performs g c).After-least_within in
     IfOk-weaker c.move_to.result _ _
     (λ said moves. performs_moves c.args.board.now c.args.plain.now c.args.worker c.args.handle.now c.args.request.0 c.args.request.1 (grip g d) (held g d)
-        c.move_to.new.plain c.in-Some-least_within.target said (g.W.Wire.accepted c.args.wire.now) (g.W.Wire.accepted c.move_to.new.wire) (g.W.Wire.faults c.args.wire.now) (g.W.Wire.faults c.move_to.new.wire)
-        (straight g d) (found g d ∙ c.in-Some-least_within.is) moves)
+    c.move_to.new.plain c.in-Some-least_within.target said (g.W.Wire.accepted c.args.wire.now) (g.W.Wire.accepted c.move_to.new.wire) (g.W.Wire.faults c.args.wire.now) (g.W.Wire.faults c.move_to.new.wire)
+    (straight g d) (found g d ∙ c.in-Some-least_within.is) moves)
     c.move_to.ensures.moves
 
 pub returns-clause-inv : goal.returns-clause-inv

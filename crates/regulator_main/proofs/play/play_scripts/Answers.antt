@@ -20,7 +20,7 @@ returns-in-Some-clause-runs g c =
     let first = subst (λ s. s ≡ get_or scripts 0 s) (sym c.as_slice.ensures) c.in-Some.ensures.item.1 in
     let all = sole scripts script c.requires.built.few first (grind (arith, nat_tests, c.in-Some.ensures.item.0)) in
     IfOk-weaker c.play_worker.result
-        (λ rows. PlaysWorker board plain 1 script rows.items (faults mid) (faults end) (list mid) (list end))
-        (λ rows. Runs scripts board rows.items (faults start) (faults end) (list start) (list end))
-        (λ rows plays. runs_sole board plain scripts script rows.items (faults start) (faults mid) (faults end) (list start) (list mid) (list end) c.requires.start all c.requires.demo c.load.ensures plays)
-        c.play_worker.ensures.plays
+    (λ rows. PlaysWorker board plain 1 script rows.items (faults mid) (faults end) (list mid) (list end))
+    (λ rows. Runs scripts board rows.items (faults start) (faults end) (list start) (list end))
+    (λ rows plays. runs_sole board plain scripts script rows.items (faults start) (faults mid) (faults end) (list start) (list mid) (list end) c.requires.start all c.requires.demo c.load.ensures plays)
+    c.play_worker.ensures.plays

@@ -1,4 +1,4 @@
-use Rattle.std.proofs.Common.{◌&&◌, sym, refl, ap, ◌∙◌, arith}
+use Rattle.std.proofs.Common.{◌&&◌, sym, ap, ◌∙◌, arith}
 use Rattle.plain_board.specs.Requests.{asks, meets_any}
 use Rattle.regulator_main.proofs.Bounds.{one_more}
 use Rattle.regulator_main.proofs.requests.bounds.Goals as goal

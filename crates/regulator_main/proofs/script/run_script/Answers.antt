@@ -1,10 +1,9 @@
-use Rattle.std.proofs.Common.{◌≡◌, ◌+◌, ◌∷◌, [], ◌++◌, ◌∙◌, List, sym, refl, subst, ap, arith, length, length-append, take}
+use Rattle.std.proofs.Common.{◌≡◌, ◌+◌, ◌∷◌, [], ◌++◌, ◌∙◌, List, sym, subst, ap, arith, length, length-append, take}
 use Rattle.board.specs.declared.write.Write.{Write}
 use Rattle.plain_board.specs.declared.row.Row.{Row}
 use Rattle.plain_board.specs.History.{NamesRail, replay, rows_of}
 use Rattle.regulator_main.specs.Script.{PlaysScript}
 use Rattle.regulator_main.proofs.Scripts.{row_of, plays_more, replay_more, rows_of-push}
-use Rattle.regulator_main.proofs.script.run_script.Given as given
 use Rattle.regulator_main.proofs.script.run_script.Goals as goal
 
 pub loop-call-preserved : goal.loop-call-preserved
@@ -23,10 +22,10 @@ loop-call-preserved g c =
     record {
       plays = subst (λ (rs : List Row). PlaysScript board c.args.plain.now c.args.worker (take (i + 1) c.args.script.now) rs (told c.args.wire.now) (told c.perform.new.wire) (count c.args.wire.now) (count c.perform.new.wire)) (sym pushed)
           (plays_more board c.args.plain.now c.loop-call.plain c.perform.new.plain c.args.worker line c.call-item.result said rows
-              (told c.args.wire.now) (told c.loop-call.wire) (told c.perform.new.wire) (count c.args.wire.now) (count c.loop-call.wire) (count c.perform.new.wire) before.replayed performs
-              c.args.script.now i before.plays (omega arith) before.lines (subst (NamesRail board) (sym c.call-item.is) (c.requires.rails i c.call-item.result (omega arith))) (omega arith) c.call-item.is);
+          (told c.args.wire.now) (told c.loop-call.wire) (told c.perform.new.wire) (count c.args.wire.now) (count c.loop-call.wire) (count c.perform.new.wire) before.replayed performs
+          c.args.script.now i before.plays (omega arith) before.lines (subst (NamesRail board) (sym c.call-item.is) (c.requires.rails i c.call-item.result (omega arith))) (omega arith) c.call-item.is);
       replayed = replay_more board c.args.plain.now c.loop-call.plain c.perform.new.plain c.args.worker line c.call-item.result said rows
-              (told c.args.wire.now) (told c.loop-call.wire) (told c.perform.new.wire) (count c.args.wire.now) (count c.loop-call.wire) (count c.perform.new.wire) before.replayed performs
+          (told c.args.wire.now) (told c.loop-call.wire) (told c.perform.new.wire) (count c.args.wire.now) (count c.loop-call.wire) (count c.perform.new.wire) before.replayed performs
           ∙ ap (replay board c.args.plain.now) (sym pushed);
       inv = c.in_ok-answer.ensures.inv;
       handles = omega (arith, before.handles, c.in_ok-answer.ensures.handles);

@@ -2,7 +2,6 @@ use Rattle.std.proofs.Common.{◌≡◌, ◌+◌, ◌≤◌, length, take}
 use Rattle.plain_board.specs.History.{replay, rows_of}
 use Rattle.plain_board.specs.Inv.{Inv}
 use Rattle.regulator_main.specs.Script.{PlaysScript}
-use Rattle.regulator_main.proofs.Scripts.{plays_more}
 use Rattle.regulator_main.proofs.script.run_script.Given as goal
 
 -- the lines so far were played, and left this plain board

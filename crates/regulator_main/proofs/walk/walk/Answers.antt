@@ -1,11 +1,10 @@
-use Rattle.std.proofs.Common.{◌≡◌, ◌∷◌, [], Some, refl, sym, ap, ◌∙◌, arith, List, drop}
-use Rattle.std.specs.Int.{abs_diff}
+use Rattle.std.proofs.Common.{◌≡◌, ◌∷◌, sym, ap, ◌∙◌, arith, drop}
 use Rattle.linear_range.specs.Pick.{pair_of}
 use Rattle.chip_regs.specs.Field.{FitsField}
 use Rattle.board.specs.declared.part.Part.TheVariants.{Selector}
-use Rattle.board.specs.Rail.{uv, allowed}
+use Rattle.board.specs.Rail.{uv}
 use Rattle.plain_board.specs.Moves.{Move, moves_to, selector_for}
-use Rattle.regulator_main.proofs.Walked.{walked_none, walked_more, rest_more, walked_all, within_from_rest, selector_for-first, field_of_selector, choice_fits, fits_byte, uv_written, moves_to-step, moves_to-same}
+use Rattle.regulator_main.proofs.Walked.{walked_more, rest_more, walked_all, selector_for-first, field_of_selector, choice_fits, fits_byte, uv_written, moves_to-step, moves_to-same}
 use Rattle.regulator_main.proofs.walk.walk.Given as given
 use Rattle.regulator_main.proofs.walk.walk.Goals as goal
 use Rattle.regulator_main.proofs.walk.walk.Goals.{After-toward-pick}

@@ -1,4 +1,4 @@
-use Rattle.std.proofs.Common.{◌*◌, ◌^◌, sym, ap, ◌∙◌, [], ◌∷◌, arith}
+use Rattle.std.proofs.Common.{ap, ◌∙◌, [], ◌∷◌, arith}
 use Rattle.reg_outside.specs.Told.{with_more}
 use Rattle.regulator_main.proofs.Walked.{at_mask}
 use Rattle.regulator_main.proofs.walk.write_field.Goals as goal
