@@ -60,15 +60,15 @@ least_pair-within lo hi ps =
 pub pick_high-within : (lo hi u : ℕ) (ps : List (ℕ × ℕ)) → pick_high (filter (λ p. is_within (Some (lo, hi)) p.1) ps) u ≡ passing (λ v. leb v hi) (pick_high ps (max u lo))
 pick_high-within lo hi u ps =
     ap least_pair (filter-filter (λ p. leb u p.1) (λ p. leb lo p.1 && leb p.1 hi) ps
-        ∙ filter_agree _ (λ p. leb (max u lo) p.1 && leb p.1 hi) (λ p. grind (arith, nat_tests)) ps
-        ∙ sym (filter-filter (λ p. leb p.1 hi) (λ p. leb (max u lo) p.1) ps))
+    ∙ filter_agree _ (λ p. leb (max u lo) p.1 && leb p.1 hi) (λ p. grind (arith, nat_tests)) ps
+    ∙ sym (filter-filter (λ p. leb p.1 hi) (λ p. leb (max u lo) p.1) ps))
     ∙ best-passing least_pair lesser_pair (λ v. leb v hi) refl (λ p ps. refl) (lesser_passes hi) (lesser_fails hi) (filter (λ p. leb (max u lo) p.1) ps)
 
 pub pick_low-within : (lo hi u : ℕ) (ps : List (ℕ × ℕ)) → pick_low (filter (λ p. is_within (Some (lo, hi)) p.1) ps) u ≡ passing (leb lo) (pick_low ps (min u hi))
 pick_low-within lo hi u ps =
     ap greatest_pair (filter-filter (λ p. leb p.1 u) (λ p. leb lo p.1 && leb p.1 hi) ps
-        ∙ filter_agree _ (λ p. leb p.1 (min u hi) && leb lo p.1) (λ p. grind (arith, nat_tests)) ps
-        ∙ sym (filter-filter (λ p. leb lo p.1) (λ p. leb p.1 (min u hi)) ps))
+    ∙ filter_agree _ (λ p. leb p.1 (min u hi) && leb lo p.1) (λ p. grind (arith, nat_tests)) ps
+    ∙ sym (filter-filter (λ p. leb lo p.1) (λ p. leb p.1 (min u hi)) ps))
     ∙ best-passing greatest_pair greater_pair (leb lo) refl (λ p ps. refl) (greater_passes lo) (greater_fails lo) (filter (λ p. leb p.1 (min u hi)) ps)
 
 -- where all pass, a filter keeps all

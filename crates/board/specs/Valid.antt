@@ -1,5 +1,5 @@
 -- Which boards are sound in themselves.
-use Rattle.std.specs.Prelude.{◌≡◌, true, ℕ, ◌<◌, length, All, Option, Some, None, IfSome, IsSome}
+use Rattle.std.specs.Prelude.{◌≡◌, true, ℕ, ◌<◌, length, All, IfSome, IsSome}
 use Rattle.chip_regs.specs.declared.field.Field.{Field}
 use Rattle.chip_regs.specs.Field.{IsField, FitsField}
 use Rattle.board.specs.declared.board.Board.{Board}

@@ -10,6 +10,8 @@ mod part;
 mod rail;
 mod rail_id;
 mod table;
+#[cfg(test)]
+mod tests;
 mod write;
 
 pub use board::Board;

@@ -116,12 +116,21 @@ get_on plain (Some grip) = OkUv (uv grip.rail plain.regs)
 -- a handle is opened that enables, asks and draws nothing
 abbrev pub opened : Plain → ℕ → ArrayString → RailId → Bool → Answer × Plain
 opened plain worker handle rail exclusive = (
-    Ok,
-    record plain {
-      handles = plain.handles ++ (rail, record {
-        worker = worker; handle = handle; enables = 0; request = None; load = 0; cursor = None; exclusive = exclusive;
-      }) ∷ [];
-    },
+  Ok,
+  record plain {
+    handles = plain.handles ++ (
+      rail,
+      record {
+        worker = worker;
+        handle = handle;
+        enables = 0;
+        request = None;
+        load = 0;
+        cursor = None;
+        exclusive = exclusive;
+      },
+    ) ∷ [];
+  },
 )
 
 -- The answer to a worker's call, and the plain board after it. `stop` tells how many moves were

@@ -1,8 +1,7 @@
 -- The counts of a rail, added up from the lists.
-use Rattle.std.specs.Prelude.{ℕ, ◌+◌, ◌==◌, ◌&&◌, Bool, false, true, List, Option, Some, None, sum_by, count_by, slice_get, unwrap_or, if◌then◌else◌}
+use Rattle.std.specs.Prelude.{ℕ, ◌+◌, ◌==◌, ◌&&◌, Bool, false, Option, Some, None, sum_by, count_by, slice_get, unwrap_or, if◌then◌else◌}
 use Rattle.board.specs.declared.board.Board.{Board}
 use Rattle.board.specs.declared.rail_id.RailId.{RailId}
-use Rattle.board.specs.declared.rail.Rail.{Rail}
 use Rattle.board.specs.Rail.{is_on}
 use Rattle.plain_board.specs.declared.handle_row.HandleRow.{HandleRow}
 use Rattle.plain_board.specs.declared.plain.Plain.{Plain}

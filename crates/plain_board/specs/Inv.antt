@@ -1,5 +1,5 @@
 -- What holds of a plain board on its board.
-use Rattle.std.specs.Prelude.{ℕ, ◌≡◌, ◌<◌, length, All}
+use Rattle.std.specs.Prelude.{◌≡◌, ◌<◌, length, All}
 use Rattle.board.specs.declared.board.Board.{Board}
 use Rattle.board.specs.Rail.{uv, IsAllowed}
 use Rattle.plain_board.specs.declared.plain.Plain.{Plain}

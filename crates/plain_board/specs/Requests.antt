@@ -1,5 +1,5 @@
 -- Which values meet the requests on a rail.
-use Rattle.std.specs.Prelude.{ℕ, ◌==◌, ◌&&◌, Bool, false, true, not, nat_le, List, [], ◌∷◌, Option, Some, None, filter, filter_map, find, if◌then◌else◌, bytes_eq}
+use Rattle.std.specs.Prelude.{ℕ, ◌==◌, ◌&&◌, Bool, true, not, nat_le, List, Option, Some, None, filter, filter_map, find, if◌then◌else◌, bytes_eq}
 use Rattle.std.specs.List.{list_all}
 use Rattle.board.specs.declared.rail_id.RailId.{RailId}
 use Rattle.board.specs.declared.rail.Rail.{Rail}

@@ -1,0 +1,137 @@
+//! Picks within bounds, and what registers say, whose expected values are worked out by hand.
+ghost use Rattle.std.specs.Prelude.{◌≡◌, None, IfOk};
+ghost use Rattle.board.specs.Valid.{IsSoundRail};
+
+use crate::{Constraints, Desc, Name, Rail, Table};
+use chip_regs::{Field, Regs};
+use linear_range::{LinearRange, Pick, RangeTable};
+use ramp_delay::Times;
+use std::process::Abort;
+use std::test::Fail;
+
+/// A rail on 600000 µV and 6250 µV more for each selector up to 127; without bounds it keeps the
+/// value that it has.
+fn core(rt: &impl Abort, bounds: Option<(u32, u32)>) -> Result<Rail, Fail>
+    ensures { IfOk result (λ rail. bounds ≡ None → IsSoundRail 1 rail) }
+{
+    let selector = field(0x10, 0x7f);
+    let enable = field(0x20, 0x01);
+    assert!(rt; selector.fits() && enable.fits());
+    let range = LinearRange {
+        min: 600000,
+        min_sel: 0,
+        max_sel: 127,
+        step: 6250,
+    };
+    Ok(Rail {
+        name: Name::from("core")?,
+        desc: Desc {
+            table: Table::Ranges(RangeTable::new(&[range])?),
+            selector: Some(selector),
+            enable,
+            ramp: 12500,
+        },
+        limits: Constraints {
+            bounds,
+            times: Times::default(),
+        },
+        supply: None,
+        changeable: bounds.is_some(),
+        kept_uv: 850000,
+    })
+}
+
+/// A field of the one chip, from bit 0 on.
+fn field(reg: u8, mask: u8) -> Field
+    ensures { result.chip ≡ 0 }
+{
+    Field {
+        chip: 0,
+        reg,
+        mask,
+        shift: 0,
+    }
+}
+
+fn at(sel: u16, uv: u32) -> Option<Pick> {
+    Some(Pick { sel, uv })
+}
+
+#[test]
+fn a_table(rt: HostRuntime) -> Result<(), Fail> {
+    let table = core(&rt, None)?.desc.table;
+    assert_eq!(rt; table.value(127), Some(1393750));
+    assert_eq!(rt; table.value(128), None);
+    assert_eq!(rt; table.selector_high(900001), at(49, 906250));
+    assert_eq!(rt; table.selector_high(1393751), None);
+    assert_eq!(rt; table.selector_low(900001), at(48, 900000));
+    assert_eq!(rt; table.selector_low(599999), None);
+    Ok(())
+}
+
+#[test]
+fn a_rail_within_bounds(rt: HostRuntime) -> Result<(), Fail> {
+    let rail = core(&rt, Some((800000, 1000000)))?;
+    // uv, the pick from above, the pick from below
+    let picks = [
+        (0, at(32, 800000), None),
+        (799999, at(32, 800000), None),
+        (800000, at(32, 800000), at(32, 800000)),
+        (900001, at(49, 906250), at(48, 900000)),
+        (1000000, at(64, 1000000), at(64, 1000000)),
+        (1000001, None, at(64, 1000000)),
+        (4294967295, None, at(64, 1000000)),
+    ];
+    for (uv, above, below) in picks {
+        assert_eq!(rt; rail.at_or_above(uv), above, "not below {uv}");
+        assert_eq!(rt; rail.at_or_below(uv), below, "not above {uv}");
+    }
+    let leasts = [
+        (900001, 950000, Some(906250)),
+        (900001, 906249, None),
+        (906250, 906250, Some(906250)),
+        (990000, 2000000, Some(993750)),
+        (1000001, 1100000, None),
+        (1000000, 4294967295, Some(1000000)),
+    ];
+    for (least, greatest, uv) in leasts {
+        assert_eq!(rt;
+            rail.least_within(least, greatest),
+            uv,
+            "{least} to {greatest}"
+        );
+    }
+    Ok(())
+}
+
+#[test]
+fn a_rail_without_bounds(rt: HostRuntime) -> Result<(), Fail> {
+    let rail = core(&rt, None)?;
+    assert_eq!(rt; rail.at_or_above(850000), at(0, 850000));
+    assert_eq!(rt; rail.at_or_above(850001), None);
+    assert_eq!(rt; rail.at_or_below(850000), at(0, 850000));
+    assert_eq!(rt; rail.at_or_below(849999), None);
+    assert_eq!(rt; rail.least_within(0, 849999), None);
+    Ok(())
+}
+
+#[test]
+fn what_the_registers_say(rt: HostRuntime) -> Result<(), Fail> {
+    let rail = core(&rt, None)?;
+    let mut regs = Regs::new(rt.alloc(), 1)?;
+    // the two registers, µV, whether the rail is on
+    let rows = [
+        (0x20, 0x00, 800000, false),
+        (0xb1, 0xfe, 906250, false),
+        (0x7f, 0x01, 1393750, true),
+    ];
+    for (sel, on, uv, is_on) in rows {
+        assert_eq!(rt; regs.chips(), 1);
+        regs.set_byte(0, 0x10, sel);
+        regs.set_byte(0, 0x20, on);
+        assert_eq!(rt; regs.chips(), 1);
+        assert_eq!(rt; rail.uv(&regs), uv, "at {sel:#x}");
+        assert_eq!(rt; rail.is_on(&regs), is_on, "at {on:#x}");
+    }
+    Ok(())
+}
