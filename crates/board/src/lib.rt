@@ -10,8 +10,6 @@ mod part;
 mod rail;
 mod rail_id;
 mod table;
-#[cfg(test)]
-mod tests;
 mod write;
 
 pub use board::Board;

@@ -46,34 +46,3 @@ impl Field {
         self.chip == other.chip && self.reg == other.reg && self.mask & other.mask != 0
     }
 }
-
-#[cfg(test)]
-mod tests {
-    use super::*;
-
-    #[test]
-    fn masks_that_are_a_run(rt: HostRuntime) {
-        let rows = [
-            (0x01, 0, true),
-            (0x7f, 0, true),
-            (0x70, 4, true),
-            (0x80, 7, true),
-            (0xff, 0, true),
-            (0x00, 0, false),
-            (0x00, 8, false),
-            (0x70, 3, false),
-            (0x70, 5, false),
-            (0x50, 4, false),
-            (0x80, 255, false),
-        ];
-        for (mask, shift, fits) in rows {
-            let field = Field {
-                chip: 0,
-                reg: 0,
-                mask,
-                shift,
-            };
-            assert_eq!(rt; field.fits(), fits, "{mask:#x} at {shift}");
-        }
-    }
-}

@@ -16,6 +16,3 @@ pub use lexer::lex;
 pub use number::{NumberFault, number_of};
 pub use piece::is_last;
 pub use token::{Kind, Token};
-
-#[cfg(test)]
-mod tests;

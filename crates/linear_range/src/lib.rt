@@ -6,8 +6,6 @@ mod linear_range;
 mod pick;
 mod range_table;
 mod table_fault;
-#[cfg(test)]
-mod tests;
 
 pub use laws::laws_of;
 pub use linear_range::LinearRange;

@@ -8,8 +8,6 @@ mod handle_row;
 mod plain;
 mod row;
 mod summary_text;
-#[cfg(test)]
-mod tests;
 mod text;
 
 pub use answer::Answer;

@@ -69,8 +69,8 @@ module _ (i i' : Input) (o o' : Output) (w w' : Wires) where
   Stands Memory = (o'.written ≡ o.written) × (i'.faults ≡ i.faults) × (o'.faults ≡ o.faults)
   Stands Words = ⊥
   Stands ReadFault = Rose i.faults i'.faults × (o' ≡ o) × (w' ≡ w)
-  Stands (WriteFault kept) = Rose o.faults o'.faults × (Ran (WrotePart kept) ⊎ ((fault : SessionFault) × Refuses i.left i'.left fault (WrotePart kept))) × (i'.faults ≡ i.faults)
-  Stands (SessionRefused fault) = Refuses i.left i'.left fault WroteWhole × (fault.kind ≢ no_memory) × (w' ≡ w) × (i'.faults ≡ i.faults) × (o'.faults ≡ o.faults)
+  Stands (WriteFault kept) = Rose o.faults o'.faults × (Ran (WrotePart kept) ⊎ ((fault : SessionFault) × Refuses i.left i'.left w.faults w'.faults w.list w'.list fault (WrotePart kept))) × (i'.faults ≡ i.faults)
+  Stands (SessionRefused fault) = Refuses i.left i'.left w.faults w'.faults w.list w'.list fault WroteWhole × (i'.faults ≡ i.faults) × (o'.faults ≡ o.faults)
 
   stands_run : (s : Status) (bytes : List ℕ) → Reads i.left i'.left bytes → i'.faults ≡ i.faults → (ran : RanSession bytes o o' w w' s) → Sent o o' (printed ran.played.board demo_plain ran.played.rows (length ran.scripts)) Done s → Stands s
   stands_run s bytes read count ran (inl whole) = subst Stands (sym whole.ends) (
@@ -108,10 +108,11 @@ module _ (i i' : Input) (o o' : Output) (w w' : Wires) where
       input = bytes;
       read = read;
       first = refused.first;
+      known = refused.known;
+      counts_stay = ap (λ (wires : Wires). wires.faults) refused.wires_stay;
+      lists_stay = ap (λ (wires : Wires). wires.list) refused.wires_stay;
       wrote = whole.wrote;
     },
-    refused.known,
-    refused.wires_stay,
     count,
     whole.count,
   )
@@ -123,6 +124,9 @@ module _ (i i' : Input) (o o' : Output) (w w' : Wires) where
         input = bytes;
         read = read;
         first = refused.first;
+        known = refused.known;
+        counts_stay = ap (λ (wires : Wires). wires.faults) refused.wires_stay;
+        lists_stay = ap (λ (wires : Wires). wires.list) refused.wires_stay;
         wrote = part.wrote;
       },
     ),

@@ -34,7 +34,10 @@ runs_none board counts counts' lists lists' demo loads = record {
   keeps = All-nil (λ row. row.writes ≡ []);
   faults = λ worker. subst (λ c. RoseBy (counts worker) c 0) (sym (loads.counts_stay worker)) (RoseBy-zero (counts worker));
   loading = loads.loading;
+  loading_count = loads.counts_stay 0;
   moves = λ worker from to. absurd (omega arith);
+  other_counts = λ n above. loads.counts_stay n;
+  other_lists = λ n above. loads.lists_stay n (λ is. absurd (omega arith));
 }
 
 module _ (board : Board) (script : List Call) (rows : List Row) (counts mid counts' : ℕ → ℕ) (lists told lists' : ℕ → Option Updates) (loads : Loads counts mid lists told) (plays : PlaysWorker board demo_plain 1 script rows mid counts' told lists') where
@@ -61,7 +64,10 @@ module _ (board : Board) (script : List Call) (rows : List Row) (counts mid coun
     keeps = plays.keeps;
     faults = λ worker. faults_one worker (eqb worker 1) refl;
     loading = plays.other_lists 0 (λ is. absurd (omega arith)) ∙ loads.loading;
+    loading_count = plays.other_counts 0 (λ is. absurd (omega arith)) ∙ loads.counts_stay 0;
     moves = moves_one;
+    other_counts = λ n above. plays.other_counts n (λ is. absurd (omega arith)) ∙ loads.counts_stay n;
+    other_lists = λ n above. plays.other_lists n (λ is. absurd (omega arith)) ∙ loads.lists_stay n (λ is. absurd (omega arith));
   }
 
 -- the first of at most one script is all of them

@@ -1,5 +1,5 @@
 -- What `front` says: what was read, what was run, and what was written.
-use Rattle.std.specs.Prelude.{ℕ, ◌≡◌, ◌+◌, ◌<◌, ◌≤◌, List, [], ◌∷◌, ◌++◌, map, take, length, codes, Option, option_map}
+use Rattle.std.specs.Prelude.{ℕ, ◌≡◌, ◌≢◌, ◌+◌, ◌<◌, ◌≤◌, List, [], ◌∷◌, ◌++◌, map, take, length, codes, Option, option_map}
 use Rattle.reg_outside.specs.Count.{RoseBy}
 use Rattle.reg_outside.specs.Told.{with_before, with_more, IsSpent}
 use Rattle.board.specs.declared.board.Board.{Board}
@@ -8,6 +8,7 @@ use Rattle.plain_board.specs.declared.row.Row.{Row}
 use Rattle.plain_board.specs.History.{IsLegal, KeepsNone, moved, faults_of}
 use Rattle.plain_board.specs.Text.{printed}
 use Rattle.regulator_main.specs.declared.fault.SessionFault.{SessionFault}
+use Rattle.regulator_main.specs.declared.fault.SessionKind.TheVariants.{Memory as no_memory}
 use Rattle.regulator_main.specs.declared.status.Status.{Status}
 use Rattle.regulator_main.specs.declared.status.Status.TheVariants.{Done, Memory, Words, ReadFault, WriteFault, SessionRefused}
 use Rattle.regulator_main.specs.Walk.{Updates, update_of}
@@ -39,10 +40,14 @@ pub record Runs (scripts : List (List Call)) (board : Board) (rows : List Row) (
   pub keeps : KeepsNone rows
   -- each fault of a worker was counted under its number
   pub faults : (worker : ℕ) → RoseBy (counts worker) (counts' worker) (faults_of worker rows)
-  -- the load wrote nothing
+  -- the load wrote nothing, and counted no fault
   pub loading : lists' 0 ≡ option_map (λ _. []) (lists 0)
+  pub loading_count : counts' 0 ≡ counts 0
   -- each worker's wire took the moves that its rows made
   pub moves : (worker : ℕ) → 1 ≤ worker → worker ≤ length scripts → lists' worker ≡ option_map (λ _. map update_of (moved board demo_plain worker rows)) (lists worker)
+  -- no other wire was used
+  pub other_counts : (n : ℕ) → length scripts < n → counts' n ≡ counts n
+  pub other_lists : (n : ℕ) → length scripts < n → lists' n ≡ lists n
 
 -- Some bytes were read that are a session, its scripts were run, and what is printed of that history was written so.
 pub record Plays (left left' : Option (List ℕ)) (counts counts' : ℕ → ℕ) (lists lists' : ℕ → Option Updates) (Wrote : List ℕ → Type 0) : Type 0 where
@@ -55,11 +60,14 @@ pub record Plays (left left' : Option (List ℕ)) (counts counts' : ℕ → ℕ)
   pub run : Runs scripts board rows counts counts' lists lists'
   pub wrote : Wrote (printed board demo_plain rows (length scripts))
 
--- some bytes were read whose first fault this is, and its line was written so
-pub record Refuses (left left' : Option (List ℕ)) (fault : SessionFault) (Wrote : List ℕ → Type 0) : Type 0 where
+-- some bytes were read whose first fault this is, its line was written so, and no wire was used
+pub record Refuses (left left' : Option (List ℕ)) (counts counts' : ℕ → ℕ) (lists lists' : ℕ → Option Updates) (fault : SessionFault) (Wrote : List ℕ → Type 0) : Type 0 where
   pub input : List ℕ
   pub read : Reads left left' input
   pub first : FirstFault input fault
+  pub known : fault.kind ≢ no_memory
+  pub counts_stay : counts' ≡ counts
+  pub lists_stay : lists' ≡ lists
   pub wrote : Wrote (refusal_text fault)
 
 -- the text went out whole

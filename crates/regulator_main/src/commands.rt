@@ -136,8 +136,8 @@ pub fn front<S: Source, K: Sink, L: Lab>(
     ensures read { TookAtMost (SESSION_LIMIT + 1) (S.left source.old) (S.left source.new) }
     ensures read_fault { result ≡ Status.ReadFault → Rose (S.faults source.old) (S.faults source.new) × (K.written sink.new ≡ K.written sink.old) × (L.faults lab.new ≡ L.faults lab.old) × (L.list lab.new ≡ L.list lab.old) }
     ensures write_fault { IfWriteFault result (λ kept. Rose (K.faults sink.old) (K.faults sink.new)) }
-    ensures cut { IfWriteFault result (λ kept. Plays (S.left source.old) (S.left source.new) (L.faults lab.old) (L.faults lab.new) (L.list lab.old) (L.list lab.new) (CutAt kept (K.written sink.old) (K.written sink.new)) ⊎ ((fault : TheFault) × Refuses (S.left source.old) (S.left source.new) fault (CutAt kept (K.written sink.old) (K.written sink.new)))) }
-    ensures refused { IfRefused result (λ fault. Refuses (S.left source.old) (S.left source.new) fault (Whole (K.written sink.old) (K.written sink.new)) × (fault.kind ≢ SessionKind.Memory) × (L.faults lab.new ≡ L.faults lab.old) × (L.list lab.new ≡ L.list lab.old)) }
+    ensures cut { IfWriteFault result (λ kept. Plays (S.left source.old) (S.left source.new) (L.faults lab.old) (L.faults lab.new) (L.list lab.old) (L.list lab.new) (CutAt kept (K.written sink.old) (K.written sink.new)) ⊎ ((fault : TheFault) × Refuses (S.left source.old) (S.left source.new) (L.faults lab.old) (L.faults lab.new) (L.list lab.old) (L.list lab.new) fault (CutAt kept (K.written sink.old) (K.written sink.new)))) }
+    ensures refused { IfRefused result (λ fault. Refuses (S.left source.old) (S.left source.new) (L.faults lab.old) (L.faults lab.new) (L.list lab.old) (L.list lab.new) fault (Whole (K.written sink.old) (K.written sink.new))) }
     ensures done { result ≡ Status.Done → Plays (S.left source.old) (S.left source.new) (L.faults lab.old) (L.faults lab.new) (L.list lab.old) (L.list lab.new) (Whole (K.written sink.old) (K.written sink.new)) }
     ensures memory { result ≡ Status.Memory → K.written sink.new ≡ K.written sink.old }
     ensures source_count { result ≢ Status.ReadFault → S.faults source.new ≡ S.faults source.old }
@@ -166,8 +166,8 @@ pub fn top<H: Threads + Wait + Sync, S: Source, K: Sink, L: Lab>(
     ensures read { TookAtMost (SESSION_LIMIT + 1) (S.left source.old) (S.left source.new) }
     ensures read_fault { result ≡ Status.ReadFault → Rose (S.faults source.old) (S.faults source.new) × (K.written sink.new ≡ K.written sink.old) × (L.faults lab.new ≡ L.faults lab.old) × (L.list lab.new ≡ L.list lab.old) }
     ensures write_fault { IfWriteFault result (λ kept. Rose (K.faults sink.old) (K.faults sink.new)) }
-    ensures cut { IfWriteFault result (λ kept. Plays (S.left source.old) (S.left source.new) (L.faults lab.old) (L.faults lab.new) (L.list lab.old) (L.list lab.new) (CutAt kept (K.written sink.old) (K.written sink.new)) ⊎ ((fault : TheFault) × Refuses (S.left source.old) (S.left source.new) fault (CutAt kept (K.written sink.old) (K.written sink.new)))) }
-    ensures refused { IfRefused result (λ fault. Refuses (S.left source.old) (S.left source.new) fault (Whole (K.written sink.old) (K.written sink.new)) × (fault.kind ≢ SessionKind.Memory) × (L.faults lab.new ≡ L.faults lab.old) × (L.list lab.new ≡ L.list lab.old)) }
+    ensures cut { IfWriteFault result (λ kept. Plays (S.left source.old) (S.left source.new) (L.faults lab.old) (L.faults lab.new) (L.list lab.old) (L.list lab.new) (CutAt kept (K.written sink.old) (K.written sink.new)) ⊎ ((fault : TheFault) × Refuses (S.left source.old) (S.left source.new) (L.faults lab.old) (L.faults lab.new) (L.list lab.old) (L.list lab.new) fault (CutAt kept (K.written sink.old) (K.written sink.new)))) }
+    ensures refused { IfRefused result (λ fault. Refuses (S.left source.old) (S.left source.new) (L.faults lab.old) (L.faults lab.new) (L.list lab.old) (L.list lab.new) fault (Whole (K.written sink.old) (K.written sink.new))) }
     ensures done { result ≡ Status.Done → Plays (S.left source.old) (S.left source.new) (L.faults lab.old) (L.faults lab.new) (L.list lab.old) (L.list lab.new) (Whole (K.written sink.old) (K.written sink.new)) }
     ensures memory { result ≡ Status.Memory → K.written sink.new ≡ K.written sink.old }
     ensures source_count { result ≢ Status.ReadFault → S.faults source.new ≡ S.faults source.old }

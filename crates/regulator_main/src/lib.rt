@@ -24,6 +24,3 @@ pub use commands::{front, top};
 pub use fault::{SessionFault, SessionKind};
 pub use laws::one_reading;
 pub use status::{Status, code};
-
-#[cfg(test)]
-mod tests;

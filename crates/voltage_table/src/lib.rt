@@ -5,8 +5,6 @@
 mod laws;
 mod list_fault;
 mod list_pick;
-#[cfg(test)]
-mod tests;
 mod volt_list;
 
 pub use laws::laws_of;

@@ -1,4 +1,4 @@
-use crate::{Kind, LexFault, is_last, lex};
+use dts_lex::{Kind, LexFault, NumberFault, is_last, laws, lex, number_of};
 use std::alloc::{AllocError, Global};
 use std::test::Fail;
 
@@ -136,4 +136,29 @@ fn each_rule_at_both_edges(rt: HostRuntime) -> Result<(), Fail> {
         assert_eq!(rt; line.as_str(), expected);
     }
     Ok(())
+}
+
+#[test]
+fn numbers_of_words(rt: HostRuntime) {
+    let wide = Err(NumberFault::TooWide);
+    let bad = Err(NumberFault::Malformed);
+    let rows = [
+        (b"0".as_slice(), Ok(0)),
+        (b"010", Ok(8)),
+        (b"0xFfUL", Ok(255)),
+        (b"4294967295ULL", Ok(4294967295)),
+        (b"4294967296", wide),
+        (b"08", bad),
+        (b"1u", bad),
+    ];
+    for (word, number) in rows {
+        assert_eq!(rt; number_of(word), number, "{word:?}");
+    }
+}
+
+#[test]
+fn laws_of_tokens() {
+    laws::spans_rise();
+    laws::kinds_fit();
+    laws::tokens_cover();
 }

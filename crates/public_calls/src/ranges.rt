@@ -1,5 +1,5 @@
 //! Picks and refusals whose expected values are worked out by hand.
-use crate::{LinearRange, Pick, RangeTable, TableFault, laws_of};
+use linear_range::{LinearRange, Pick, RangeTable, TableFault, laws_of};
 use std::process::Abort;
 use std::test::Fail;
 

@@ -1,11 +1,8 @@
-use crate::commands::front;
-use crate::fault::{SessionFault, SessionKind};
-use crate::input::SESSION_LIMIT;
-use crate::session::read_session;
-use crate::status::{Status, code};
-use plain_board::Call;
+//! Whole sessions through `front`, with text that was worked out by hand.
 use reg_outside::{Lab, MemLab, MemSink, MemSource, NullLab, Source};
+use regulator_main::{Status, code, front, one_reading};
 use std::alloc::{AllocError, Global};
+use std::process::Abort;
 use std::test::Fail;
 
 const DEMO: &str = "%session 1\n%board demo\n";
@@ -31,6 +28,22 @@ fn solo<L: Lab>(
     Ok(front(alloc, words.as_slice(), &mut source, sink, lab))
 }
 
+/// A session is refused for its first fault, which is of this kind and at this line.
+fn assert_refused(
+    rt: &impl Abort,
+    alloc: Global,
+    text: &str,
+    line: u32,
+    kind: &str,
+) -> Result<(), Fail> {
+    let mut sink = MemSink::new(alloc, 100, Vec::new(alloc))?;
+    let status = solo(alloc, text, &mut sink, &mut NullLab)?;
+    let refusal = format!(in alloc; "refused {line} {kind}\n")?;
+    assert_eq!(rt; code(&status), 5, "{text:?}");
+    assert_eq!(rt; sink.bytes(), refusal.as_bytes(), "{text:?}");
+    Ok(())
+}
+
 /// A worker that opens `a` and then asks for its value, so many call lines in all.
 fn long_text(alloc: Global, count: usize) -> Result<String, AllocError> {
     let mut text = String::from_str(alloc, DEMO)?;
@@ -41,19 +54,12 @@ fn long_text(alloc: Global, count: usize) -> Result<String, AllocError> {
     Ok(text)
 }
 
-fn first_fault(alloc: Global, text: &str) -> Option<(u32, SessionKind)> {
-    match read_session(alloc, text.as_bytes()) {
-        Ok(_) => None,
-        Err(SessionFault { line, kind }) => Some((line, kind)),
-    }
-}
-
 /// Texts, each with the line and the kind of its first fault.
 #[test]
-fn faults(rt: HostRuntime) -> Result<(), Fail> {
+fn first_faults(rt: HostRuntime) -> Result<(), Fail> {
     let alloc = rt.alloc();
-    let bad = SessionKind::BadSession;
-    let not_yet = SessionKind::NotYet;
+    let bad = "badsession";
+    let not_yet = "notyet";
     let head = [
         ("", 1, bad),
         ("%session 1", 1, bad),
@@ -62,12 +68,12 @@ fn faults(rt: HostRuntime) -> Result<(), Fail> {
         ("%session 1\n%board dts\n", 2, not_yet),
         ("%session 1\n%board dts", 2, bad),
         ("%session 1\n%board dtb\n", 2, bad),
-        ("%session 1\n%board demo\n", 3, bad),
     ];
     for (text, line, kind) in head {
-        assert_eq!(rt; first_fault(alloc, text), Some((line, kind)), "{text:?}");
+        assert_refused(&rt, alloc, text, line, kind)?;
     }
     let after_board = [
+        ("", 3, bad),
         ("%reg 0 0x20 0x01\n", 3, not_yet),
         ("%reg 4294967295 0xff 0x00\n", 3, not_yet),
         ("%reg 4294967296 0xff 0x00\n", 3, bad),
@@ -89,11 +95,7 @@ fn faults(rt: HostRuntime) -> Result<(), Fail> {
     ];
     for (more, line, kind) in after_board {
         let text = format!(in alloc; "{DEMO}{more}")?;
-        assert_eq!(rt;
-            first_fault(alloc, text.as_str()),
-            Some((line, kind)),
-            "{more:?}"
-        );
+        assert_refused(&rt, alloc, text.as_str(), line, kind)?;
     }
     let in_worker = [
         ("", 4, bad),
@@ -127,59 +129,34 @@ fn faults(rt: HostRuntime) -> Result<(), Fail> {
     ];
     for (more, line, kind) in in_worker {
         let text = format!(in alloc; "{DEMO}%worker\n{more}")?;
-        assert_eq!(rt;
-            first_fault(alloc, text.as_str()),
-            Some((line, kind)),
-            "{more:?}"
-        );
+        assert_refused(&rt, alloc, text.as_str(), line, kind)?;
     }
-    let mut text = long_text(alloc, 4097)?;
-    assert_eq!(rt;
-        first_fault(alloc, text.as_str()),
-        Some((4100, SessionKind::TooManyLines))
-    );
-    text = long_text(alloc, 4096)?;
-    text.push_str("ison a\n")?;
-    assert_eq!(rt; first_fault(alloc, text.as_str()), Some((4100, not_yet)));
-    let long = vec![in alloc; b'%'; 4_194_305]?;
-    let first = SessionFault {
-        line: 0,
-        kind: SessionKind::TooLong,
-    };
-    assert_eq!(rt; read_session(alloc, long.as_slice()).err(), Some(first));
     Ok(())
 }
 
+/// A text and a worker that are as long as they may be, and longer.
 #[test]
-fn sessions(rt: HostRuntime) -> Result<(), Fail> {
+fn limits(rt: HostRuntime) -> Result<(), Fail> {
     let alloc = rt.alloc();
-    let none = read_session(alloc, b"%session 1\n%board demo\n%done\n")
-        .ok()
-        .ok_or("none")?;
-    assert_eq!(rt; none.len(), 0);
-    let mut text = long_text(alloc, 4095)?;
+    let mut long = String::new(alloc);
+    for _ in 0..4_194_304 {
+        long.push('%')?;
+    }
+    assert_refused(&rt, alloc, long.as_str(), 1, "badsession")?;
+    long.push('%')?;
+    assert_refused(&rt, alloc, long.as_str(), 0, "toolong")?;
+    let many = long_text(alloc, 4097)?;
+    assert_refused(&rt, alloc, many.as_str(), 4100, "toomanylines")?;
+    let mut text = long_text(alloc, 4096)?;
+    text.push_str("ison a\n")?;
+    assert_refused(&rt, alloc, text.as_str(), 4100, "notyet")?;
+    text = long_text(alloc, 4095)?;
     text.push_str("set a 800000 4294967295\n%end\n%done\n")?;
-    let one = read_session(alloc, text.as_bytes()).ok().ok_or("one")?;
-    assert_eq!(rt; one.len(), 1);
-    assert_eq!(rt; one[0].len(), 4096);
-    let opened = match one[0].get(0) {
-        Some(
-            Call::Open {
-                handle,
-                rail,
-                exclusive,
-            },
-        ) => handle.as_str() == "a" && rail.0 == 0 && !*exclusive,
-        _ => false,
-    };
-    assert!(rt; opened);
-    let set = match one[0].get(4095) {
-        Some(Call::Set { handle, lo, hi }) => {
-            handle.as_str() == "a" && *lo == 800_000 && *hi == 4_294_967_295
-        }
-        _ => false,
-    };
-    assert!(rt; set);
+    let mut sink = MemSink::new(alloc, 1_000_000, Vec::new(alloc))?;
+    let status = solo(alloc, text.as_str(), &mut sink, &mut NullLab)?;
+    assert_eq!(rt; status, Status::Done);
+    let end = b"1 4096 set a 800000 4294967295 -> ok 800000 0\nrail core off 800000 normal use 0 enables 0\ndone 1 4096\n";
+    assert!(rt; sink.bytes().ends_with(end.as_slice()));
     Ok(())
 }
 
@@ -252,30 +229,6 @@ fn the_wire_refuses(rt: HostRuntime) -> Result<(), Fail> {
 }
 
 #[test]
-fn refusals(rt: HostRuntime) -> Result<(), Fail> {
-    let alloc = rt.alloc();
-    let mut long = String::new(alloc);
-    for _ in 0..SESSION_LIMIT + 1 {
-        long.push('%')?;
-    }
-    let worker = format!(in alloc; "{DEMO}%worker\nenable a\n")?;
-    let many = long_text(alloc, 4097)?;
-    let rows = [
-        (long.as_str(), "refused 0 toolong\n"),
-        (DEMO, "refused 3 badsession\n"),
-        (worker.as_str(), "refused 4 notyet\n"),
-        (many.as_str(), "refused 4100 toomanylines\n"),
-    ];
-    for (text, line) in rows {
-        let mut sink = MemSink::new(alloc, 100, Vec::new(alloc))?;
-        let status = solo(alloc, text, &mut sink, &mut NullLab)?;
-        assert_eq!(rt; code(&status), 5, "{line:?}");
-        assert_eq!(rt; sink.bytes(), line.as_bytes());
-    }
-    Ok(())
-}
-
-#[test]
 fn words_and_failures(rt: HostRuntime) -> Result<(), Fail> {
     let alloc = rt.alloc();
     let text = format!(in alloc; "{DEMO}%worker\n%end\n%done\n")?;
@@ -298,4 +251,9 @@ fn words_and_failures(rt: HostRuntime) -> Result<(), Fail> {
     assert_eq!(rt; status, Status::WriteFault { kept: 5 });
     assert_eq!(rt; sink.bytes(), b"rail ".as_slice());
     Ok(())
+}
+
+#[test]
+fn laws_of_sessions() {
+    one_reading();
 }

@@ -6,7 +6,7 @@ ghost use Rattle.plain_board.specs.Inv.{Inv};
 ghost use Rattle.plain_board.specs.History.{NamesRail};
 ghost use Rattle.plain_board.specs.Text.{HasRails};
 
-use crate::{Answer, Call, HandleRow, Plain, Row, summary};
+use plain_board::{Answer, Call, HandleRow, Plain, Row, summary};
 use board::{Board, Constraints, Desc, Handle, Name, Rail, RailId, Table};
 use chip_regs::{Field, Regs};
 use item_list::Items;

@@ -1,4 +1,4 @@
-use crate::{
+use reg_outside::{
     Lab, MemLab, MemSink, MemSource, MemWire, NullLab, Planned, Sink, Source, StdSink, StdSource,
     Wire,
 };

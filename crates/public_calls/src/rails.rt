@@ -2,7 +2,7 @@
 ghost use Rattle.std.specs.Prelude.{◌≡◌, None, IfOk};
 ghost use Rattle.board.specs.Valid.{IsSoundRail};
 
-use crate::{Constraints, Desc, Name, Rail, Table};
+use board::{Constraints, Desc, Name, Rail, Table};
 use chip_regs::{Field, Regs};
 use linear_range::{LinearRange, Pick, RangeTable};
 use ramp_delay::Times;

@@ -1,5 +1,5 @@
 //! Picks and refusals whose expected values are worked out by hand.
-use crate::{ListFault, ListPick, VoltList, laws_of};
+use voltage_table::{ListFault, ListPick, VoltList, laws_of};
 use std::test::Fail;
 
 #[test]
