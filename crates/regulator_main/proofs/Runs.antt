@@ -10,6 +10,7 @@ use Rattle.plain_board.specs.declared.call.Call.{Call}
 use Rattle.plain_board.specs.declared.plain.Plain.{Plain}
 use Rattle.plain_board.specs.declared.row.Row.{Row}
 use Rattle.plain_board.specs.History.{rows_of, faults_of, moved}
+use Rattle.plain_board.specs.Law.{Law}
 use Rattle.regulator_main.specs.Demo.{IsDemo, demo_plain}
 use Rattle.regulator_main.specs.Front.{Runs}
 use Rattle.regulator_main.specs.Script.{Loads, turn_of, turns_of, PlaysWorker}
@@ -26,12 +27,13 @@ others_none worker other (call ∷ script) (row ∷ rows) is apart =
     let test : eqb row.worker other ≡ false = grind (arith, nat_tests) in
     rw test (others_none worker other script rows rest apart)
 
-pub runs_none : (board : Board) (counts counts' : ℕ → ℕ) (lists lists' : ℕ → Option Updates) → IsDemo board → Loads counts counts' lists lists' → Runs [] board [] counts counts' lists lists'
-runs_none board counts counts' lists lists' demo loads = record {
+pub runs_none : (board : Board) (counts counts' : ℕ → ℕ) (lists lists' : ℕ → Option Updates) → IsDemo board → Law board demo_plain.regs → Loads counts counts' lists lists' → Runs [] board [] counts counts' lists lists'
+runs_none board counts counts' lists lists' demo law loads = record {
   demo = demo;
   legal = tt;
   in_order = refl;
   keeps = All-nil (λ row. row.writes ≡ []);
+  lawful = law;
   faults = λ worker. subst (λ c. RoseBy (counts worker) c 0) (sym (loads.counts_stay worker)) (RoseBy-zero (counts worker));
   loading = loads.loading;
   loading_count = loads.counts_stay 0;
@@ -62,6 +64,7 @@ module _ (board : Board) (script : List Call) (rows : List Row) (counts mid coun
     legal = plays.legal;
     in_order = plays.in_order ∙ sym (append-nil (turns_of 1 script));
     keeps = plays.keeps;
+    lawful = plays.lawful;
     faults = λ worker. faults_one worker (eqb worker 1) refl;
     loading = plays.other_lists 0 (λ is. absurd (omega arith)) ∙ loads.loading;
     loading_count = plays.other_counts 0 (λ is. absurd (omega arith)) ∙ loads.counts_stay 0;

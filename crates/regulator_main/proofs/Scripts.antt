@@ -18,6 +18,7 @@ use Rattle.plain_board.specs.declared.plain.Plain.{Plain}
 use Rattle.plain_board.specs.declared.row.Row.{Row}
 use Rattle.plain_board.specs.Answer.{answer, plan}
 use Rattle.plain_board.specs.History.{stop_of, IsWithinPlan, made_of, moves_of, after_stop, after, replay, NamesRail, rows_of, IsNext, legal_after, moved, is_fault, faults_of}
+use Rattle.plain_board.specs.Law.{Law, Throughout, LawHolds}
 use Rattle.plain_board.specs.Moves.{writes_of}
 use Rattle.plain_board.specs.Text.{HasRails}
 use Rattle.regulator_main.specs.Desk.{Performs, CountsFault}
@@ -39,6 +40,12 @@ legal-push : (board : Board) (plain : Plain) (before xs : List Row) (y : Row) �
 legal-push board plain before [] y legal next = (subst (λ (rows : List Row). IsNext board plain rows y) (append-nil before) next, tt)
 legal-push board plain before (x ∷ xs) y legal next =
     (legal.0, legal-push board (after board plain x) (before ++ x ∷ []) xs y legal.1 (subst (λ (rows : List Row). IsNext board (replay board (after board plain x) xs) rows y) (sym (append_assoc before (x ∷ []) xs)) next))
+
+-- the law holds of one row more
+law_push : (board : Board) (plain : Plain) (xs : List Row) (y : Row) → LawHolds board plain xs → Throughout (Law board) board (replay board plain xs).regs (moves_of board (replay board plain xs) y)
+    → Law board (after board (replay board plain xs) y).regs → LawHolds board plain (xs ++ y ∷ [])
+law_push board plain [] y holds all end = (all, end)
+law_push board plain (x ∷ xs) y holds all end = (holds.0, law_push board (after board plain x) xs y holds.1 all end)
 
 -- the plain board after a row is that of its answer
 after_by : (board : Board) (plain plain' : Plain) (row : Row) (stop : Option ℕ) → IsWithinPlan stop (plan board plain row.worker row.call)
@@ -94,10 +101,10 @@ module _ (board : Board) (plain now plain' : Plain) (worker line : ℕ) (call : 
       ∙ ap (λ ws. moved board plain worker rows ++ ws) moved_one
 
   -- one call more is played
-  pub plays_more : (script : List Call) (i : ℕ) → PlaysScript board plain worker (take i script) rows told mid count between
+  pub plays_more : (script : List Call) (i : ℕ) → Law board plain'.regs → PlaysScript board plain worker (take i script) rows told mid count between
       → line ≡ i + 1 → length (rows_of worker rows) ≡ i → NamesRail board call → i < length script → call ≡ get_or script i call
       → PlaysScript board plain worker (take (i + 1) script) (rows ++ row_of worker line call said ∷ []) told told' count count'
-  plays_more script i plays line_is lines names within here = record {
+  plays_more script i law plays line_is lines names within here = record {
     legal = legal-push board plain [] rows the_row plays.legal (subst (λ (p : Plain). IsNext board p rows the_row) is (record {
       rail = names;
       stop = performs.within;
@@ -109,6 +116,10 @@ module _ (board : Board) (plain now plain' : Plain) (worker line : ℕ) (call : 
         map-append turn_of rows (the_row ∷ []) ∙ ap (λ turns. turns ++ (worker, call) ∷ []) plays.in_order
         ∙ sym (ap (turns_of worker) (take_more script i call within ∙ ap (λ c. take i script ++ c ∷ []) (sym here)) ∙ map-append (λ (c : Call). (worker, c)) (take i script) (call ∷ []));
     keeps = All-push (λ r. r.writes ≡ []) rows the_row plays.keeps refl;
+    lawful = law_push board plain rows the_row plays.lawful
+        (subst (λ (p : Plain). Throughout (Law board) board p.regs (moves_of board p the_row)) is performs.lawful)
+        (subst (λ (p : Plain). Law board (after board p the_row).regs) is
+        (subst (λ (p : Plain). Law board p.regs) (sym (after_by board now plain' the_row (stop_of said) performs.within performs.answered)) law));
     names = All-push (λ r. NamesRail board r.call) rows the_row plays.names names;
     rails = All-push (λ r. HasRails board r.answer) rows the_row plays.rails performs.rails;
     moves =

@@ -17,6 +17,8 @@ use Rattle.plain_board.specs.declared.handle_row.HandleRow.{HandleRow}
 use Rattle.plain_board.specs.declared.plain.Plain.{Plain}
 use Rattle.plain_board.specs.Answer.{Grip, grip_of, target_of}
 use Rattle.plain_board.specs.Inv.{Inv}
+use Rattle.plain_board.specs.Law.{StandsWell, Law, Throughout}
+use Rattle.plain_board.specs.Moves.{Move, field_of_move, written}
 use Rattle.plain_board.specs.Requests.{is_own, others, meets}
 use Rattle.regulator_main.specs.Desk.{Moves, IsKept, Performs}
 use Rattle.regulator_main.specs.Walk.{Updates}
@@ -62,11 +64,21 @@ single (y ∷ []) zero x one is = let e : y ≡ x = cc in ap (λ z. z ∷ []) e
 single (y ∷ []) (suc k) x one is = cc
 single (y ∷ z ∷ zs) k x one is = absurd (omega arith)
 
+-- what follows from a fact of the registers holds where it does
+throughout_weaker : (P Q : List (List ℕ) → Type 0) (board : Board) (regs : List (List ℕ)) (moves : List Move) → ((r : List (List ℕ)) → P r → Q r) → Throughout P board regs moves → Throughout Q board regs moves
+throughout_weaker P Q board regs [] weaker is = weaker regs is
+throughout_weaker P Q board regs (move ∷ moves) weaker is = (weaker regs is.0, throughout_weaker P Q board (written (field_of_move board move) regs move.bits) moves weaker is.1)
+
+-- the law, by the one rail
+law_of_one : (board : Board) (grip : Grip) (regs : List (List ℕ)) → IsValid board → slice_get board.rails grip.id.0 ≡ Some grip.rail → StandsWell grip.rail regs → Law board regs
+law_of_one board grip regs valid there stands =
+    subst (All (λ rail. StandsWell rail regs)) (sym (single board.rails grip.id.0 grip.rail valid.one there))
+    (All-cons (λ rail. StandsWell rail regs) grip.rail [] stands (All-nil (λ rail. StandsWell rail regs)))
+
 -- what holds of the plain board still holds
 pub inv_kept : (board : Board) (plain plain' : Plain) (grip : Grip) → IsValid board → Inv board plain → slice_get board.rails grip.id.0 ≡ Some grip.rail → IsKept plain plain' grip → Inv board plain'
 inv_kept board plain plain' grip valid inv there kept = record {
-  law = subst (All (λ rail. IsAllowed rail (uv rail plain'.regs))) (sym (single board.rails grip.id.0 grip.rail valid.one there))
-      (All-cons (λ rail. IsAllowed rail (uv rail plain'.regs)) grip.rail [] kept.lawful (All-nil (λ rail. IsAllowed rail (uv rail plain'.regs))));
+  law = law_of_one board grip plain'.regs valid there kept.lawful;
   regs = kept.chips ∙ inv.regs;
   holds = ap length kept.holds ∙ inv.holds;
   events = ap length kept.events ∙ inv.events;
@@ -74,16 +86,16 @@ inv_kept board plain plain' grip valid inv there kept = record {
       (All-set (λ row. row.0.0 < length board.rails) plain.handles grip.at (grip.id, kept.row) (get_within board.rails grip.id.0 grip.rail there) inv.handles);
 }
 
-module _ (board : Board) (plain : Plain) (worker : ℕ) (handle : ArrayString) (lo hi : ℕ) (grip : Grip) (is : grip_of board plain worker handle.bytes ≡ Some grip) where
+module _ (board : Board) (plain : Plain) (valid : IsValid board) (law : Law board plain.regs) (worker : ℕ) (handle : ArrayString) (lo hi : ℕ) (grip : Grip) (there : slice_get board.rails grip.id.0 ≡ Some grip.rail) (is : grip_of board plain worker handle.bytes ≡ Some grip) where
   -- a range that is turned round is refused, and nothing moves
   pub performs_bad : (told : Option Updates) (count : ℕ) → ltb hi lo ≡ true
       → Performs board plain plain worker (calls.Set handle lo hi) (BadRange lo hi) told told count count
-  performs_bad told count turned = record { within = tt; answered = rw (is, turned); rails = tt; updates = rw (is, turned) (sym (with_more-nil told)); faults = refl }
+  performs_bad told count turned = record { within = tt; answered = rw (is, turned); rails = tt; lawful = rw (is, turned) law; updates = rw (is, turned) (sym (with_more-nil told)); faults = refl }
 
   -- no value meets all requests, and nothing moves
   pub performs_none : (told : Option Updates) (count : ℕ) → ltb hi lo ≡ false → target_of plain worker handle.bytes (lo, hi) grip ≡ None
       → Performs board plain plain worker (calls.Set handle lo hi) NoValue told told count count
-  performs_none told count straight none = record { within = tt; answered = rw (is, straight, none); rails = tt; updates = rw (is, straight, none) (sym (with_more-nil told)); faults = refl }
+  performs_none told count straight none = record { within = tt; answered = rw (is, straight, none); rails = tt; lawful = rw (is, straight, none) law; updates = rw (is, straight, none) (sym (with_more-nil told)); faults = refl }
 
   -- the rail is moved to its target
   pub performs_moves : (plain' : Plain) (target : ℕ) (said : Answer) (told told' : Option Updates) (count count' : ℕ) → ltb hi lo ≡ false → target_of plain worker handle.bytes (lo, hi) grip ≡ Some target
@@ -93,6 +105,7 @@ module _ (board : Board) (plain : Plain) (worker : ℕ) (handle : ArrayString) (
     within = rw (is, straight, some) moves.within;
     answered = rw (is, straight, some) moves.answered;
     rails = moves.rails;
+    lawful = rw (is, straight, some) (throughout_weaker (StandsWell grip.rail) (Law board) board plain.regs _ (λ regs. law_of_one board grip regs valid there) moves.lawful);
     updates = rw (is, straight, some) moves.updates;
     faults = moves.faults;
   }

@@ -67,14 +67,16 @@ longer_not_short script call full begins =
 pub many_refused : (script : List Call) (call : Call) → IsScript (script ++ call ∷ []) → length script ≡ 4096 → RefusesLine TooManyLines ((before_calls ++ lines_in script) ++ call_line call ∷ [])
 many_refused script call sound full = (longer_begins script call sound, longer_not_short script call full)
 
+-- no call line is an end line
+holds_no_end : (script first : List Call) (after : List (List ℕ)) → lines_in first ++ end_line ∷ after ≡ lines_in script → ⊥
+holds_no_end script first after same = not_split end_line (lines_in script) (lines_in first) after (HasNoEnd-calls script) (sym same)
+
 pub calls_end : (script : List Call) (tail : List ℕ) (scripts : List (List Call)) → AreSession (before_calls ++ lines_in script) tail scripts → ⊥
 calls_end script tail scripts session =
     let spelled : before_calls ++ lines_in script ≡ frame_lines (frame_of scripts) = session.frame in
     let frame : after_board [] (map (map call_line) scripts) ≡ worker_line ∷ lines_in script = cc in
     let found = script_of scripts (lines_in script) frame in
-    let after = flat_map worker_lines (map (map call_line) found.1) ++ done_line ∷ [] in
-    let same : lines_in script ≡ lines_in found.0 ++ end_line ∷ after = sym found.3 in
-    not_split end_line (lines_in script) (lines_in found.0) after (HasNoEnd-calls script) same
+    holds_no_end script found.0 (flat_map worker_lines (map (map call_line) found.1) ++ done_line ∷ []) found.3
 
 -- the lines after a worker
 after-assoc : (calls rest more : List (List ℕ)) → (worker_line ∷ ((calls ++ end_line ∷ []) ++ rest)) ++ more ≡ worker_line ∷ (calls ++ end_line ∷ (rest ++ more))

@@ -6,6 +6,7 @@ use Rattle.board.specs.declared.board.Board.{Board}
 use Rattle.plain_board.specs.declared.call.Call.{Call}
 use Rattle.plain_board.specs.declared.row.Row.{Row}
 use Rattle.plain_board.specs.History.{IsLegal, KeepsNone, moved, faults_of}
+use Rattle.plain_board.specs.Law.{LawHolds}
 use Rattle.plain_board.specs.Text.{printed}
 use Rattle.regulator_main.specs.declared.fault.SessionFault.{SessionFault}
 use Rattle.regulator_main.specs.declared.fault.SessionKind.TheVariants.{Memory as no_memory}
@@ -38,6 +39,8 @@ pub record Runs (scripts : List (List Call)) (board : Board) (rows : List Row) (
   pub legal : IsLegal board demo_plain rows
   pub in_order : map turn_of rows ≡ turns 1 scripts
   pub keeps : KeepsNone rows
+  -- the board is lawful at the start and after every single register write
+  pub lawful : LawHolds board demo_plain rows
   -- each fault of a worker was counted under its number
   pub faults : (worker : ℕ) → RoseBy (counts worker) (counts' worker) (faults_of worker rows)
   -- the load wrote nothing, and counted no fault

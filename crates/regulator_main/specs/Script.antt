@@ -7,6 +7,7 @@ use Rattle.plain_board.specs.declared.call.Call.{Call}
 use Rattle.plain_board.specs.declared.plain.Plain.{Plain}
 use Rattle.plain_board.specs.declared.row.Row.{Row}
 use Rattle.plain_board.specs.History.{NamesRail, IsLegal, KeepsNone, moved, faults_of}
+use Rattle.plain_board.specs.Law.{LawHolds}
 use Rattle.plain_board.specs.Text.{HasRails}
 use Rattle.regulator_main.specs.Walk.{Updates, update_of}
 
@@ -19,11 +20,12 @@ abbrev pub turns_of : ℕ → List Call → List (ℕ × Call)
 turns_of worker script = map (λ call. (worker, call)) script
 
 -- the rows are a history from this plain board, they have the calls of the script in order and keep
--- no writes, and the worker's wire took their moves and counted each of their faults
+-- no writes, the law holds after every register write, and the worker's wire took their moves and counted each of their faults
 pub record PlaysScript (board : Board) (plain : Plain) (worker : ℕ) (script : List Call) (rows : List Row) (told told' : Option Updates) (count count' : ℕ) : Type 0 where
   pub legal : IsLegal board plain rows
   pub in_order : map turn_of rows ≡ turns_of worker script
   pub keeps : KeepsNone rows
+  pub lawful : LawHolds board plain rows
   pub names : All (λ row. NamesRail board row.call) rows
   pub rails : All (λ row. HasRails board row.answer) rows
   pub moves : told' ≡ with_more told (map update_of (moved board plain worker rows))
@@ -35,6 +37,7 @@ pub record PlaysWorker (board : Board) (plain : Plain) (worker : ℕ) (script : 
   pub legal : IsLegal board plain rows
   pub in_order : map turn_of rows ≡ turns_of worker script
   pub keeps : KeepsNone rows
+  pub lawful : LawHolds board plain rows
   pub names : All (λ row. NamesRail board row.call) rows
   pub rails : All (λ row. HasRails board row.answer) rows
   pub moves : lists' worker ≡ option_map (λ _. map update_of (moved board plain worker rows)) (lists worker)

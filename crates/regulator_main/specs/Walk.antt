@@ -2,7 +2,9 @@
 use Rattle.std.specs.Prelude.{ℕ, ◌≡◌, List, map, Option}
 use Rattle.reg_outside.specs.Told.{with_more}
 use Rattle.board.specs.declared.board.Board.{Board}
+use Rattle.board.specs.declared.rail.Rail.{Rail}
 use Rattle.board.specs.declared.write.Write.{Write}
+use Rattle.plain_board.specs.Law.{StandsWell, Throughout}
 use Rattle.plain_board.specs.Moves.{Move, after_moves, writes_of}
 
 -- an update as a wire tells it
@@ -13,7 +15,9 @@ update_of write = (write.chip, write.reg, write.mask, write.bits)
 abbrev pub Updates : Type 0
 Updates = List (ℕ × ℕ × ℕ × ℕ)
 
--- these moves were made: in the registers, and on the wire
-pub record Makes (board : Board) (moves : List Move) (regs regs' : List (List ℕ)) (told told' : Option Updates) : Type 0 where
+-- these moves of a rail were made: in the registers, and on the wire; the rail stood at a value
+-- that it may stand at before them and after each
+pub record Makes (board : Board) (rail : Rail) (moves : List Move) (regs regs' : List (List ℕ)) (told told' : Option Updates) : Type 0 where
   pub registers : regs' ≡ after_moves board regs moves
+  pub lawful : Throughout (StandsWell rail) board regs moves
   pub updates : told' ≡ with_more told (map update_of (writes_of board moves))

@@ -102,10 +102,10 @@ pub(crate) fn walk<W: Wire>(
     requires changeable { rail.now.changeable ≡ true }
     requires allowed { IsAllowed rail.now target }
     requires lawful { IsAllowed rail.now (uv rail.now regs.old) }
-    ensures there { OnOk result (Makes board.now (moves_to id rail.now (uv rail.now regs.old) target) regs.old regs.new (W.accepted wire.old) (W.accepted wire.new)) }
+    ensures there { OnOk result (Makes board.now rail.now (moves_to id rail.now (uv rail.now regs.old) target) regs.old regs.new (W.accepted wire.old) (W.accepted wire.new)) }
     ensures counted { OnOk result (W.faults wire.new ≡ W.faults wire.old) }
     ensures before_the_end { IfErr result (λ made. made < length (moves_to id rail.now (uv rail.now regs.old) target)) }
-    ensures stopped { IfErr result (λ made. Makes board.now (take made (moves_to id rail.now (uv rail.now regs.old) target)) regs.old regs.new (W.accepted wire.old) (W.accepted wire.new)) }
+    ensures stopped { IfErr result (λ made. Makes board.now rail.now (take made (moves_to id rail.now (uv rail.now regs.old) target)) regs.old regs.new (W.accepted wire.old) (W.accepted wire.new)) }
     ensures fault { OnErr result (Rose (W.faults wire.old) (W.faults wire.new)) }
     ensures chips { length regs.new ≡ length regs.old }
     ensures lawful { IsAllowed rail.now (uv rail.now regs.new) }
@@ -136,11 +136,11 @@ pub(crate) fn settle<W: Wire>(
     requires sound { IsSoundRail (length regs.old) rail.now }
     requires allowed { IsAllowed rail.now target }
     requires lawful { IsAllowed rail.now (uv rail.now regs.old) }
-    ensures there { OnOk result (Makes board.now (moves_to id rail.now (uv rail.now regs.old) target) regs.old regs.new (W.accepted wire.old) (W.accepted wire.new)) }
+    ensures there { OnOk result (Makes board.now rail.now (moves_to id rail.now (uv rail.now regs.old) target) regs.old regs.new (W.accepted wire.old) (W.accepted wire.new)) }
     ensures counted { OnOk result (W.faults wire.new ≡ W.faults wire.old) }
     ensures selector { IfErr result (λ stop. rail.now.desc.selector ≡ Some stop.0) }
     ensures before_the_end { IfErr result (λ stop. stop.1 < length (moves_to id rail.now (uv rail.now regs.old) target)) }
-    ensures stopped { IfErr result (λ stop. Makes board.now (take stop.1 (moves_to id rail.now (uv rail.now regs.old) target)) regs.old regs.new (W.accepted wire.old) (W.accepted wire.new)) }
+    ensures stopped { IfErr result (λ stop. Makes board.now rail.now (take stop.1 (moves_to id rail.now (uv rail.now regs.old) target)) regs.old regs.new (W.accepted wire.old) (W.accepted wire.new)) }
     ensures fault { OnErr result (Rose (W.faults wire.old) (W.faults wire.new)) }
     ensures chips { length regs.new ≡ length regs.old }
     ensures law { IsAllowed rail.now (uv rail.now regs.new) }

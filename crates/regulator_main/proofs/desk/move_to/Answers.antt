@@ -26,6 +26,7 @@ returns-in_ok-changed-in-Err-clause-moves g c =
           (c.put_request-in-Err.ensures ∙ ap (with_request plain grip c.settle.new.regs) kept_is);
       rails = subst (All (λ r. r.0.0 < length board.rails)) (sym now_is)
           (changed_within c.args.id (uv rail plain.regs) (uv rail c.settle.new.regs) (length board.rails) (get_within board.rails c.args.id.0 rail c.requires.rail));
+      lawful = stop.stopped.lawful;
       updates = stop.stopped.updates;
       faults = stop.fault;
     }

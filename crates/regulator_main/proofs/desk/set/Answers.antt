@@ -38,7 +38,7 @@ found g c =
 pub returns-in_default-least_within-clause-performs : goal.returns-in_default-least_within-clause-performs
 returns-in_default-least_within-clause-performs g c =
     let d = (goal.at.returns-in_default-least_within-clause-performs g c).After-least_within in
-    performs_none c.args.board.now c.args.plain.now c.args.worker c.args.handle.now c.args.request.0 c.args.request.1 (grip g d) (held g d)
+    performs_none c.args.board.now c.args.plain.now c.requires.valid c.requires.inv.law c.args.worker c.args.handle.now c.args.request.0 c.args.request.1 (grip g d) c.rail_at-rail.ensures (held g d)
     (g.W.Wire.accepted c.args.wire.now) (g.W.Wire.faults c.args.wire.now) (straight g d) (found g d ∙ c.in_default-least_within.is)
 
 pub move_to-requires-clause-sound : goal.move_to-requires-clause-sound
@@ -58,7 +58,7 @@ pub returns-clause-performs : goal.returns-clause-performs
 returns-clause-performs g c =
     let d = (goal.at.returns-clause-performs g c).After-least_within in
     IfOk-weaker c.move_to.result _ _
-    (λ said moves. performs_moves c.args.board.now c.args.plain.now c.args.worker c.args.handle.now c.args.request.0 c.args.request.1 (grip g d) (held g d)
+    (λ said moves. performs_moves c.args.board.now c.args.plain.now c.requires.valid c.requires.inv.law c.args.worker c.args.handle.now c.args.request.0 c.args.request.1 (grip g d) c.rail_at-rail.ensures (held g d)
     c.move_to.new.plain c.in-Some-least_within.target said (g.W.Wire.accepted c.args.wire.now) (g.W.Wire.accepted c.move_to.new.wire) (g.W.Wire.faults c.args.wire.now) (g.W.Wire.faults c.move_to.new.wire)
     (straight g d) (found g d ∙ c.in-Some-least_within.is) moves)
     c.move_to.ensures.moves

@@ -23,7 +23,7 @@ loop-call-preserved g c =
       plays = subst (λ (rs : List Row). PlaysScript board c.args.plain.now c.args.worker (take (i + 1) c.args.script.now) rs (told c.args.wire.now) (told c.perform.new.wire) (count c.args.wire.now) (count c.perform.new.wire)) (sym pushed)
           (plays_more board c.args.plain.now c.loop-call.plain c.perform.new.plain c.args.worker line c.call-item.result said rows
           (told c.args.wire.now) (told c.loop-call.wire) (told c.perform.new.wire) (count c.args.wire.now) (count c.loop-call.wire) (count c.perform.new.wire) before.replayed performs
-          c.args.script.now i before.plays (omega arith) before.lines (subst (NamesRail board) (sym c.call-item.is) (c.requires.rails i c.call-item.result (omega arith))) (omega arith) c.call-item.is);
+          c.args.script.now i c.in_ok-answer.ensures.inv.law before.plays (omega arith) before.lines (subst (NamesRail board) (sym c.call-item.is) (c.requires.rails i c.call-item.result (omega arith))) (omega arith) c.call-item.is);
       replayed = replay_more board c.args.plain.now c.loop-call.plain c.perform.new.plain c.args.worker line c.call-item.result said rows
           (told c.args.wire.now) (told c.loop-call.wire) (told c.perform.new.wire) (count c.args.wire.now) (count c.loop-call.wire) (count c.perform.new.wire) before.replayed performs
           ∙ ap (replay board c.args.plain.now) (sym pushed);

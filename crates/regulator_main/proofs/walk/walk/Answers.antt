@@ -1,10 +1,10 @@
-use Rattle.std.proofs.Common.{◌≡◌, ◌∷◌, sym, ap, ◌∙◌, arith, drop}
+use Rattle.std.proofs.Common.{◌≡◌, ◌∷◌, sym, subst, ◌∙◌, arith, drop}
 use Rattle.linear_range.specs.Pick.{pair_of}
 use Rattle.chip_regs.specs.Field.{FitsField}
 use Rattle.board.specs.declared.part.Part.TheVariants.{Selector}
-use Rattle.board.specs.Rail.{uv}
+use Rattle.board.specs.Rail.{uv, IsAllowed}
 use Rattle.plain_board.specs.Moves.{Move, moves_to, selector_for}
-use Rattle.regulator_main.proofs.Walked.{walked_more, rest_more, walked_all, selector_for-first, field_of_selector, choice_fits, fits_byte, uv_written, moves_to-step, moves_to-same}
+use Rattle.regulator_main.proofs.Walked.{walked_more, rest_more, walked_all, selector_for-first, field_of_selector, choice_fits, fits_byte, uv_written, moves_to-step, none_left}
 use Rattle.regulator_main.proofs.walk.walk.Given as given
 use Rattle.regulator_main.proofs.walk.walk.Goals as goal
 use Rattle.regulator_main.proofs.walk.walk.Goals.{After-toward-pick}
@@ -37,12 +37,14 @@ loop-at-preserved g c =
     let done = c.in-Ok.ensures in
     let field_is = field_of_selector c.args.board.now c.args.id c.args.rail.now c.args.field (selector_for c.args.rail.now c.toward-pick.result.uv) c.requires.place c.requires.selector in
     let sel_is = selector_for-first c.args.rail.now (pair_of c.toward-pick.result) c.toward-pick.ensures.first in
+    let at_is = uv_written c.args.rail.now c.args.field c.write_field.new.regs c.toward-pick.result.sel c.toward-pick.result.uv c.requires.selector done.reads (c.toward-pick.ensures.value c.requires.changeable) in
     record {
-      walked = walked_more c.args.board.now moves c.args.regs.now c.loop-at.regs c.write_field.new.regs (g.W.Wire.accepted c.args.wire.now) (g.W.Wire.accepted c.loop-at.wire) (g.W.Wire.accepted c.write_field.new.wire) c.loop-at.made (move g d) rest
-          c.loop-at.invariant.walked (next_left g d) (rw (field_is, sel_is) done.registers) (rw (field_is, sel_is) done.told);
+      walked = walked_more c.args.board.now c.args.rail.now moves c.args.regs.now c.loop-at.regs c.write_field.new.regs (g.W.Wire.accepted c.args.wire.now) (g.W.Wire.accepted c.loop-at.wire) (g.W.Wire.accepted c.write_field.new.wire) c.loop-at.made (move g d) rest
+          c.loop-at.invariant.walked (next_left g d) (rw (field_is, sel_is) done.registers) (rw (field_is, sel_is) done.told)
+          (subst (IsAllowed c.args.rail.now) at_is c.toward-pick.ensures.lawful);
       rest = rest_more moves c.loop-at.made (move g d) rest (next_left g d);
       lawful = c.toward-pick.ensures.lawful;
-      at = uv_written c.args.rail.now c.args.field c.write_field.new.regs c.toward-pick.result.sel c.toward-pick.result.uv c.requires.selector done.reads (c.toward-pick.ensures.value c.requires.changeable);
+      at = at_is;
       counted = done.counted ∙ c.loop-at.invariant.counted;
       chips = done.chips ∙ c.loop-at.invariant.chips;
       bound = omega (arith, c.toward-pick.ensures.nearer, c.loop-at.invariant.bound);
@@ -50,6 +52,5 @@ loop-at-preserved g c =
 
 pub returns-clause-there : goal.returns-clause-there
 returns-clause-there g c =
-    let there : c.loop-at.at ≡ c.args.target = c.loop-at-test.false in
-    walked_all c.args.board.now _ c.args.regs.now c.loop-at.regs (g.W.Wire.accepted c.args.wire.now) (g.W.Wire.accepted c.loop-at.wire) c.loop-at.made c.loop-at.invariant.walked
-    (sym c.loop-at.invariant.rest ∙ ap (λ v. moves_to c.args.id c.args.rail.now v c.args.target) there ∙ moves_to-same c.args.id c.args.rail.now c.args.target)
+    walked_all c.args.board.now c.args.rail.now _ c.args.regs.now c.loop-at.regs (g.W.Wire.accepted c.args.wire.now) (g.W.Wire.accepted c.loop-at.wire) c.loop-at.made c.loop-at.invariant.walked
+    (none_left c.args.id c.args.rail.now c.loop-at.at c.args.target c.loop-at.made _ c.loop-at.invariant.rest c.loop-at-test.false)

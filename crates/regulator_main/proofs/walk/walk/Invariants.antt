@@ -10,7 +10,7 @@ invariant-loop-at g l =
     let moves = moves_to l.fn.id l.rail (uv l.rail l.fn.regs) l.target in
     let told = g.W.Wire.accepted in
     record {
-      walked : Walked l.board moves l.fn.regs l.regs (told l.fn.wire) (told l.wire) l.made;
+      walked : Walked l.board l.rail moves l.fn.regs l.regs (told l.fn.wire) (told l.wire) l.made;
       rest : moves_to l.fn.id l.rail l.at l.target ≡ drop l.made moves;
       lawful : IsAllowed l.rail l.at;
       at : l.at ≡ uv l.rail l.regs;
