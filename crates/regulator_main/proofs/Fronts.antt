@@ -1,5 +1,5 @@
 -- What follows for a caller from the way in which a command on a session ended.
-use Rattle.std.proofs.Common.{◌≡◌, ◌≢◌, ℕ, ◌<◌, ◌≤◌, ◌⊎◌, inl, inr, ⊎_elim, List, ◌++◌, Option, Some, None, refl, sym, subst, ap, ◌∙◌, append-nil, arith, length, length-append}
+use Rattle.std.proofs.Common.{◌≡◌, ℕ, ◌<◌, ◌≤◌, ◌⊎◌, inl, inr, ⊎_elim, List, ◌++◌, Option, Some, None, refl, sym, subst, ap, ◌∙◌, append-nil, arith, length, length-append}
 use Rattle.std.proofs.lemmas.Bool.{cases_lt}
 use Rattle.reg_outside.specs.Count.{Rose, Stayed}
 use Rattle.reg_outside.specs.CountFacts.{Rose-not_Stayed}

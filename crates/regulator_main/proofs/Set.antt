@@ -8,7 +8,7 @@ use Rattle.arrayvec.specs.ArrayString.{ArrayString}
 use Rattle.board.specs.declared.board.Board.{Board}
 use Rattle.board.specs.declared.rail.Rail.{Rail}
 use Rattle.board.specs.declared.rail_id.RailId.{RailId}
-use Rattle.board.specs.Rail.{uv, allowed, is_within, least, lesser, IsAllowed}
+use Rattle.board.specs.Rail.{allowed, is_within, least, lesser, IsAllowed}
 use Rattle.board.specs.Valid.{IsValid}
 use Rattle.plain_board.specs.declared.answer.Answer.{Answer}
 use Rattle.plain_board.specs.declared.answer.Answer.TheVariants.{BadRange, NoValue}
