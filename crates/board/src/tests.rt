@@ -8,6 +8,7 @@ use linear_range::{LinearRange, Pick, RangeTable};
 use ramp_delay::Times;
 use std::process::Abort;
 use std::test::Fail;
+use voltage_table::VoltList;
 
 /// A rail on 600000 µV and 6250 µV more for each selector up to 127; without bounds it keeps the
 /// value that it has.
@@ -29,7 +30,13 @@ fn core(rt: &impl Abort, bounds: Option<(u32, u32)>) -> Result<Rail, Fail>
             table: Table::Ranges(RangeTable::new(&[range])?),
             selector: Some(selector),
             enable,
+            modes: None,
+            greatest: [0; 4],
+            suspend_enable: None,
+            suspend_selector: None,
+            dropout: 0,
             ramp: 12500,
+            enable_time: 100,
         },
         limits: Constraints {
             bounds,
@@ -66,6 +73,18 @@ fn a_table(rt: HostRuntime) -> Result<(), Fail> {
     assert_eq!(rt; table.selector_high(1393751), None);
     assert_eq!(rt; table.selector_low(900001), at(48, 900000));
     assert_eq!(rt; table.selector_low(599999), None);
+    assert_eq!(rt; table.count(), 128);
+    Ok(())
+}
+
+#[test]
+fn a_table_by_a_list(rt: HostRuntime) -> Result<(), Fail> {
+    let table = Table::List(VoltList::new(&[5, 3, 5, 3])?);
+    assert_eq!(rt; table.value(3), Some(3));
+    assert_eq!(rt; table.value(4), None);
+    assert_eq!(rt; table.selector_high(4), at(0, 5));
+    assert_eq!(rt; table.selector_low(4), at(1, 3));
+    assert_eq!(rt; table.count(), 4);
     Ok(())
 }
 

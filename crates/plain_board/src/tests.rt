@@ -36,7 +36,13 @@ fn one_rail(rt: &impl Abort, alloc: Global) -> Result<Board, Fail>
             table: Table::Ranges(RangeTable::new(&[])?),
             selector: None,
             enable,
+            modes: None,
+            greatest: [0; 4],
+            suspend_enable: None,
+            suspend_selector: None,
+            dropout: 0,
             ramp: 0,
+            enable_time: 0,
         },
         limits: Constraints {
             bounds: None,

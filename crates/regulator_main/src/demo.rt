@@ -50,7 +50,28 @@ fn core() -> Rail
                 mask: 0x01,
                 shift: 0,
             },
+            modes: Some(Field {
+                chip: 0,
+                reg: 0x30,
+                mask: 0x03,
+                shift: 0,
+            }),
+            greatest: [3000000, 1000000, 50000, 5000],
+            suspend_enable: Some(Field {
+                chip: 0,
+                reg: 0x21,
+                mask: 0x01,
+                shift: 0,
+            }),
+            suspend_selector: Some(Field {
+                chip: 0,
+                reg: 0x40,
+                mask: 0x7f,
+                shift: 0,
+            }),
+            dropout: 0,
             ramp: 12500,
+            enable_time: 100,
         },
         limits: Constraints {
             bounds: Some((800000, 1000000)),
