@@ -5,6 +5,7 @@ ghost use Rattle.board.specs.Valid.{IsSoundRail};
 use crate::{Constraints, Desc, Name, Rail, Table};
 use chip_regs::{Field, Regs};
 use linear_range::{LinearRange, Pick, RangeTable};
+use load_modes::Modes;
 use ramp_delay::Times;
 use std::process::Abort;
 use std::test::Fail;
@@ -40,9 +41,19 @@ fn core(rt: &impl Abort, bounds: Option<(u32, u32)>) -> Result<Rail, Fail>
         },
         limits: Constraints {
             bounds,
+            always_on: false,
+            boot_on: false,
+            allow_load: false,
+            system_load: 0,
             times: Times::default(),
+            enable_ramp: 0,
+            allowed: Modes::empty(),
+            initial: None,
+            max_step: 0,
+            sleeps: [None; 3],
         },
         supply: None,
+        group: 0,
         changeable: bounds.is_some(),
         kept_uv: 850000,
     })

@@ -11,6 +11,7 @@ use board::{Board, Constraints, Desc, Handle, Name, Rail, RailId, Table};
 use chip_regs::{Field, Regs};
 use item_list::Items;
 use linear_range::RangeTable;
+use load_modes::Modes;
 use ramp_delay::Times;
 use std::alloc::Global;
 use std::process::Abort;
@@ -46,9 +47,19 @@ fn one_rail(rt: &impl Abort, alloc: Global) -> Result<Board, Fail>
         },
         limits: Constraints {
             bounds: None,
+            always_on: false,
+            boot_on: false,
+            allow_load: false,
+            system_load: 0,
             times: Times::default(),
+            enable_ramp: 0,
+            allowed: Modes::empty(),
+            initial: None,
+            max_step: 0,
+            sleeps: [None; 3],
         },
         supply: None,
+        group: 0,
         changeable: false,
         kept_uv: 800000,
     };
