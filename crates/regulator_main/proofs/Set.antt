@@ -20,6 +20,7 @@ use Rattle.plain_board.specs.Inv.{Inv}
 use Rattle.plain_board.specs.Requests.{is_own, others, meets}
 use Rattle.regulator_main.specs.Desk.{Moves, IsKept, Performs}
 use Rattle.regulator_main.specs.Walk.{Updates}
+use Rattle.regulator_main.proofs.Beside.{all_allowed}
 use Rattle.regulator_main.proofs.Ordered.{has, has-filter, or_true}
 use Rattle.regulator_main.proofs.Nearest.{right_true}
 use Rattle.regulator_main.proofs.Stopped.{get_within}
@@ -55,18 +56,10 @@ pub target_by : (plain : Plain) (worker : ℕ) (name : List ℕ) (request bounds
     → target_of plain worker name request grip ≡ least (filter (is_within (Some bounds)) (allowed grip.rail))
 target_by plain worker name request bounds grip same = ap least (filter_agree (λ v. list_all (meets v) (request ∷ others plain worker name grip.id.0)) (is_within (Some bounds)) same (allowed grip.rail))
 
--- a list of one element
-single : {X : Type 0} (xs : List X) (k : ℕ) (x : X) → length xs ≡ 1 → slice_get xs k ≡ Some x → xs ≡ x ∷ []
-single [] k x one is = cc
-single (y ∷ []) zero x one is = let e : y ≡ x = cc in ap (λ z. z ∷ []) e
-single (y ∷ []) (suc k) x one is = cc
-single (y ∷ z ∷ zs) k x one is = absurd (omega arith)
-
 -- what holds of the plain board still holds
 pub inv_kept : (board : Board) (plain plain' : Plain) (grip : Grip) → IsValid board → Inv board plain → slice_get board.rails grip.id.0 ≡ Some grip.rail → IsKept plain plain' grip → Inv board plain'
 inv_kept board plain plain' grip valid inv there kept = record {
-  law = subst (All (λ rail. IsAllowed rail (uv rail plain'.regs))) (sym (single board.rails grip.id.0 grip.rail valid.one there))
-      (All-cons (λ rail. IsAllowed rail (uv rail plain'.regs)) grip.rail [] kept.lawful (All-nil (λ rail. IsAllowed rail (uv rail plain'.regs))));
+  law = all_allowed board valid plain plain' grip inv there kept;
   regs = kept.chips ∙ inv.regs;
   holds = ap length kept.holds ∙ inv.holds;
   events = ap length kept.events ∙ inv.events;

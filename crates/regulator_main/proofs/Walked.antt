@@ -1,10 +1,10 @@
 -- The moves of a walk, one at a time.
-use Rattle.std.proofs.Common.{◌≡◌, append-nil, ℕ, ◌+◌, ◌*◌, ◌^◌, ◌/◌, ◌%◌, ◌<◌, ◌≤◌, ◌⊎◌, inl, inr, Bool, true, false, cond, eqb, List, [], ◌∷◌, ◌++◌, Option, Some, refl, sym, subst, ap, ◌∙◌, arith, map, find, take, drop, length, get_or}
+use Rattle.std.proofs.Common.{◌≡◌, append-nil, ℕ, ◌+◌, ◌*◌, ◌^◌, ◌/◌, ◌%◌, ◌<◌, ◌≤◌, ◌⊎◌, inl, inr, Bool, true, false, cond, eqb, List, [], ◌∷◌, ◌++◌, Option, Some, refl, sym, subst, ap, ◌∙◌, arith, map, filter, find, take, drop, length, get_or}
 use Rattle.std.specs.Prelude.{slice_get, All, IfSome}
 use Rattle.std.proofs.Math.Nat.{div-le_self, div-mul-le_self, mod-eq_of_lt, mul-le-mul_right}
 use Rattle.std.proofs.lemmas.Bool.{cases_lt}
 use Rattle.std.proofs.lemmas.List.{drop_all, drop_more, take_more, take-append-drop, map-append}
-use Rattle.std.proofs.lemmas.List.Elements.{All-head, All-tail}
+use Rattle.std.proofs.lemmas.List.Elements.{All-nil, All-cons, All-head, All-tail, All-filter}
 use Rattle.chip_regs.specs.declared.field.Field.{Field}
 use Rattle.chip_regs.specs.Field.{FitsField}
 use Rattle.chip_regs.specs.Registers.{field_of}
@@ -12,8 +12,8 @@ use Rattle.board.specs.declared.board.Board.{Board}
 use Rattle.board.specs.declared.rail.Rail.{Rail}
 use Rattle.board.specs.declared.rail_id.RailId.{RailId}
 use Rattle.board.specs.declared.part.Part.TheVariants.{Selector}
-use Rattle.board.specs.Table.{uv_of}
-use Rattle.board.specs.Rail.{allowed, choices, uv}
+use Rattle.board.specs.Table.{uv_of, values_of}
+use Rattle.board.specs.Rail.{allowed, choices, uv, is_within}
 use Rattle.plain_board.specs.Moves.{Move, after_moves, writes_of, moves_to, field_of_move, way, selector_for, update_of_field, written}
 use Rattle.reg_outside.specs.Told.{with_more}
 use Rattle.reg_outside.specs.ToldFacts.{with_more-nil, with_more-with_more}
@@ -99,11 +99,17 @@ pub found_has : {X : Type 0} (P : X → Type 0) (test : X → Bool) (xs : List X
 found_has P test [] x all is = cc
 found_has P test (y ∷ ys) x all is = found_step P test y ys x (test y) all is (found_has P test ys x (All-tail P y ys all))
 
+-- a choice is one of the table, or has the selector 0
+fit_choices : (rail : Rail) (field : Field) (t : Bool) → All (λ pair. FitsField field pair.0) (values_of rail.desc.table)
+    → All (λ pair. FitsField field pair.0) (cond t (filter (λ pair. is_within rail.limits.bounds pair.1) (values_of rail.desc.table)) ((0, rail.kept_uv) ∷ []))
+fit_choices rail field true fits = All-filter (λ pair. is_within rail.limits.bounds pair.1) (λ pair. FitsField field pair.0) (values_of rail.desc.table) fits
+fit_choices rail field false fits = All-cons (λ (pair : ℕ × ℕ). FitsField field pair.0) (0, rail.kept_uv) [] (omega arith) (All-nil (λ (pair : ℕ × ℕ). FitsField field pair.0))
+
 -- the selector of a choice fits the rail's field
-pub choice_fits : (rail : Rail) (field : Field) (p : ℕ × ℕ) → rail.desc.selector ≡ Some field → IfSome rail.desc.selector (λ f. All (λ pair. FitsField f pair.0) (choices rail)) → IsFirst (choices rail) p → FitsField field p.0
+pub choice_fits : (rail : Rail) (field : Field) (p : ℕ × ℕ) → rail.desc.selector ≡ Some field → IfSome rail.desc.selector (λ f. All (λ pair. FitsField f pair.0) (values_of rail.desc.table)) → IsFirst (choices rail) p → FitsField field p.0
 choice_fits rail field p selector fits first =
     found_has (λ pair. FitsField field pair.0) (λ q. eqb q.1 p.1) (choices rail) p
-    (subst (λ (o : Option Field). IfSome o (λ f. All (λ pair. FitsField f pair.0) (choices rail))) selector fits) first
+    (fit_choices rail field rail.changeable (subst (λ (o : Option Field). IfSome o (λ f. All (λ pair. FitsField f pair.0) (values_of rail.desc.table))) selector fits)) first
 
 -- a field has at most a byte's numbers
 pub fits_byte : (field : Field) (n : ℕ) → FitsField field n → field.mask < 256 → n < 256

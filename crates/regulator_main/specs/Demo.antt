@@ -4,12 +4,12 @@ use Rattle.linear_range.specs.declared.linear_range.LinearRange.{LinearRange}
 use Rattle.chip_regs.specs.declared.field.Field.{Field}
 use Rattle.chip_regs.specs.Registers.{with_byte}
 use Rattle.load_modes.specs.Modes.{bits_of}
-use Rattle.board_graph.specs.declared.graph.Graph.{Graph}
 use Rattle.board.specs.declared.board.Board.{Board}
 use Rattle.board.specs.declared.constraints.Constraints.{Constraints}
 use Rattle.board.specs.declared.desc.Desc.{Desc}
 use Rattle.board.specs.declared.rail.Rail.{Rail}
 use Rattle.board.specs.declared.table.Table.TheVariants.{Ranges}
+use Rattle.board.specs.Lone.{lone_graph}
 use Rattle.plain_board.specs.declared.plain.Plain.{Plain}
 
 -- the one range of `core`: 600000 µV and 6250 µV more for each selector up to 127
@@ -57,10 +57,6 @@ pub record IsCore (rail : Rail) : Type 0 where
   pub group : rail.group ≡ 0
   pub changeable : rail.changeable ≡ true
   pub kept_uv : rail.kept_uv ≡ 800000
-
--- one rail without a supply, which is coupled with none
-abbrev pub lone_graph : Graph
-lone_graph = record { supply = None ∷ []; group = 0 ∷ []; link = false ∷ [] }
 
 -- the board `demo`
 pub record IsDemo (board : Board) : Type 0 where

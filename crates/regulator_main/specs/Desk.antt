@@ -13,7 +13,7 @@ use Rattle.plain_board.specs.Answer.{Grip, answer, plan, set_to}
 use Rattle.plain_board.specs.History.{stop_of, IsWithinPlan, made_of}
 use Rattle.plain_board.specs.Moves.{moves_to, writes_of}
 use Rattle.plain_board.specs.Text.{HasRails}
-use Rattle.regulator_main.specs.Walk.{Updates, update_of}
+use Rattle.regulator_main.specs.Walk.{Updates, update_of, IsSameBeside}
 
 -- a fault was counted, and nothing else was
 abbrev pub CountsFault : Answer → ℕ → ℕ → Type 0
@@ -29,9 +29,11 @@ pub record Moves (board : Board) (plain plain' : Plain) (grip : Grip) (request :
   pub updates : told' ≡ with_more told (map update_of (writes_of board (made_of (stop_of said) (moves_to grip.id grip.rail (uv grip.rail plain.regs) target))))
   pub faults : CountsFault said count count'
 
--- the rail stands at an allowed value, one handle has another row, and all else is as it was
+-- the rail stands at an allowed value, one handle has another row, and all else is as it was, each
+-- field beside the rail's selector too
 pub record IsKept (plain plain' : Plain) (grip : Grip) : Type 0 where
   pub lawful : IsAllowed grip.rail (uv grip.rail plain'.regs)
+  pub others : IsSameBeside grip.rail.desc.selector plain.regs plain'.regs
   pub chips : length plain'.regs ≡ length plain.regs
   pub holds : plain'.holds ≡ plain.holds
   pub events : plain'.events ≡ plain.events

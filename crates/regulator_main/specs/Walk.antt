@@ -1,6 +1,9 @@
 -- What the moves of a call do outside the plain board.
-use Rattle.std.specs.Prelude.{ℕ, ◌≡◌, List, map, Option}
+use Rattle.std.specs.Prelude.{ℕ, ◌≡◌, List, map, Option, IfSome}
 use Rattle.reg_outside.specs.Told.{with_more}
+use Rattle.chip_regs.specs.declared.field.Field.{Field}
+use Rattle.chip_regs.specs.Field.{SharesBit}
+use Rattle.chip_regs.specs.Registers.{field_of}
 use Rattle.board.specs.declared.board.Board.{Board}
 use Rattle.board.specs.declared.write.Write.{Write}
 use Rattle.plain_board.specs.Moves.{Move, after_moves, writes_of}
@@ -12,6 +15,10 @@ update_of write = (write.chip, write.reg, write.mask, write.bits)
 -- updates as a wire tells them
 abbrev pub Updates : Type 0
 Updates = List (ℕ × ℕ × ℕ × ℕ)
+
+-- every field that shares no bit with this one reads as before; where it is none, all do
+abbrev pub IsSameBeside : Option Field → List (List ℕ) → List (List ℕ) → Type 0
+IsSameBeside written regs regs' = (other : Field) → IfSome written (λ field. ¬ SharesBit field other) → field_of regs' other ≡ field_of regs other
 
 -- these moves were made: in the registers, and on the wire
 pub record Makes (board : Board) (moves : List Move) (regs regs' : List (List ℕ)) (told told' : Option Updates) : Type 0 where

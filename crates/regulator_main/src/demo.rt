@@ -1,9 +1,11 @@
 ghost use Rattle.std.specs.Prelude.{◌≡◌, IfOk, codes};
 ghost use Rattle.board.specs.Valid.{IsValid};
 ghost use Rattle.plain_board.specs.Inv.{Inv};
-ghost use Rattle.regulator_main.specs.Demo.{IsCore, IsDemo, core_ranges, lone_graph, demo_regs, demo_plain};
+ghost use Rattle.board.specs.Lone.{lone_graph};
+ghost use Rattle.regulator_main.specs.Demo.{IsCore, IsDemo, core_ranges, demo_regs, demo_plain};
 
 use bitflags::Flags;
+use board::laws::lone_is_valid;
 use board::{Board, Constraints, Desc, Name, Rail, Table};
 use board_graph::Graph;
 use chip_regs::{Field, Regs};
@@ -169,6 +171,7 @@ pub(crate) fn demo(alloc: Global) -> Result<(Board, Plain), AllocError>
     ensures inv { IfOk result (λ made. Inv made.0 made.1) }
 {
     let board = demo_board(alloc)?;
+    lone_is_valid(&board);
     let plain = demo_plain(alloc)?;
     Ok((board, plain))
 }

@@ -1,8 +1,11 @@
-use Rattle.std.proofs.Common.{◌≡◌, ◌∷◌, sym, ap, ◌∙◌, arith, drop}
+use Rattle.std.proofs.Common.{◌≡◌, ◌∷◌, Option, sym, subst, ap, ◌∙◌, arith, drop, length}
+use Rattle.std.specs.Prelude.{IfSome}
 use Rattle.linear_range.specs.Pick.{pair_of}
+use Rattle.chip_regs.specs.declared.field.Field.{Field}
 use Rattle.chip_regs.specs.Field.{FitsField}
 use Rattle.board.specs.declared.part.Part.TheVariants.{Selector}
 use Rattle.board.specs.Rail.{uv}
+use Rattle.board.specs.Valid.{IsPlaced}
 use Rattle.plain_board.specs.Moves.{Move, moves_to, selector_for}
 use Rattle.regulator_main.proofs.Walked.{walked_more, rest_more, walked_all, selector_for-first, field_of_selector, choice_fits, fits_byte, uv_written, moves_to-step, moves_to-same}
 use Rattle.regulator_main.proofs.walk.walk.Given as given
@@ -12,6 +15,16 @@ use Rattle.regulator_main.proofs.walk.walk.Goals.{After-toward-pick}
 -- the selector that is written fits its field
 fits : (g : given.Over) (c : After-toward-pick g) → FitsField c.args.field c.toward-pick.result.sel
 fits g c = choice_fits c.args.rail.now c.args.field (pair_of c.toward-pick.result) c.requires.selector c.requires.sound.selectors c.toward-pick.ensures.first
+
+-- the selector's field is in the registers
+placed : (g : given.Over) (c : After-toward-pick g) → IsPlaced (length c.args.regs.now) c.args.field
+placed g c = subst (λ (o : Option Field). IfSome o (IsPlaced (length c.args.regs.now))) c.requires.selector (c.requires.sound.placed Selector)
+
+pub write_field-requires-clause-field : goal.write_field-requires-clause-field
+write_field-requires-clause-field g c = (placed g (goal.at.write_field-requires-clause-field g c).After-toward-pick).shape
+
+pub write_field-requires-clause-chip : goal.write_field-requires-clause-chip
+write_field-requires-clause-chip g c = let here = (placed g (goal.at.write_field-requires-clause-chip g c).After-toward-pick).chip in omega (arith, c.loop-at.invariant.chips)
 
 -- the next move
 abbrev move : (g : given.Over) (c : After-toward-pick g) → Move
@@ -44,6 +57,7 @@ loop-at-preserved g c =
       lawful = c.toward-pick.ensures.lawful;
       at = uv_written c.args.rail.now c.args.field c.write_field.new.regs c.toward-pick.result.sel c.toward-pick.result.uv c.requires.selector done.reads (c.toward-pick.ensures.value c.requires.changeable);
       counted = done.counted ∙ c.loop-at.invariant.counted;
+      others = λ other apart. done.others other apart ∙ c.loop-at.invariant.others other apart;
       chips = done.chips ∙ c.loop-at.invariant.chips;
       bound = omega (arith, c.toward-pick.ensures.nearer, c.loop-at.invariant.bound);
     }
