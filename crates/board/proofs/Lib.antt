@@ -1,2 +1,5 @@
 pub mod Choices
+pub mod Lists
+pub mod Lone
+pub mod Nearest
 pub mod Picks

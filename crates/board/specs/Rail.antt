@@ -1,10 +1,11 @@
 -- What the registers say of a rail, and which values it may stand at.
 use Rattle.std.specs.Prelude.{ℕ, Bool, ◌&&◌, ◌==◌, true, List, [], ◌∷◌, map, filter, Option, Some, None, unwrap_or, nat_eq, nat_le, IsTrue, if◌then◌else◌}
 use Rattle.std.specs.List.{list_any}
+use Rattle.std.specs.Option.{is_some}
 use Rattle.chip_regs.specs.declared.field.Field.{Field}
 use Rattle.chip_regs.specs.Registers.{field_of}
 use Rattle.board.specs.declared.part.Part.{Part}
-use Rattle.board.specs.declared.part.Part.TheVariants.{Selector, Enable}
+use Rattle.board.specs.declared.part.Part.TheVariants.{Selector, Enable, ModePart, SuspendEnable, SuspendSelector}
 use Rattle.board.specs.declared.rail.Rail.{Rail}
 use Rattle.board.specs.Table.{uv_of, values_of}
 
@@ -56,4 +57,10 @@ is_on rail regs = field_of regs rail.desc.enable == 1
 abbrev pub part_field : Part → Rail → Option Field
 part_field Selector rail = rail.desc.selector
 part_field Enable rail = Some rail.desc.enable
-part_field _ rail = None
+part_field ModePart rail = rail.desc.modes
+part_field SuspendEnable rail = rail.desc.suspend_enable
+part_field SuspendSelector rail = rail.desc.suspend_selector
+
+-- consumers' loads choose the rail's mode: it was asked for, and the rail has modes
+abbrev pub counts_loads : Rail → Bool
+counts_loads rail = rail.limits.allow_load && is_some rail.desc.modes

@@ -1,24 +1,121 @@
 -- Which boards are sound in themselves.
-use Rattle.std.specs.Prelude.{◌≡◌, true, ℕ, ◌<◌, length, All, IfSome, IsSome}
+use Rattle.std.specs.Prelude.{ℕ, Bool, ◌≡◌, ◌≢◌, ◌-◌, ◌^◌, ◌<◌, ◌≤◌, ◌⊎◌, ◌&&◌, not, ◌==◌, nat_lt, true, false, List, [], map, length, slice_get, All, AllPairs, Contains, Option, None, Some, IfSome, IsSome}
+use Rattle.std.specs.Option.{option_map, option_and_then}
 use Rattle.chip_regs.specs.declared.field.Field.{Field}
-use Rattle.chip_regs.specs.Field.{IsField, FitsField}
+use Rattle.chip_regs.specs.Field.{IsField, FitsField, SharesBit, greatest_of}
+use Rattle.load_modes.specs.Modes.{mode_of_load}
+use Rattle.board_graph.specs.Graph.{IsAbove, AreCoupled}
+use Rattle.board_graph.specs.Order.{IsOrder}
 use Rattle.board.specs.declared.board.Board.{Board}
+use Rattle.board.specs.declared.part.Part.{Part}
 use Rattle.board.specs.declared.rail.Rail.{Rail}
-use Rattle.board.specs.Rail.{choices}
+use Rattle.board.specs.declared.rail_id.RailId.{RailId}
+use Rattle.board.specs.declared.sleep.Sleep.{Sleep}
+use Rattle.board.specs.Table.{uv_of, values_of}
+use Rattle.board.specs.Rail.{allowed, part_field, counts_loads}
+use Rattle.board.specs.Fields.{field_at}
+use Rattle.board.specs.Gaps.{HasNarrowGaps}
+
+-- both bounds are given, and the least is below the greatest
+abbrev pub is_span : Option (ℕ × ℕ) → Bool
+is_span None = false
+is_span (Some bounds) = nat_lt bounds.0 bounds.1
 
 -- a field lies in a chip of the board
 pub record IsPlaced (chips : ℕ) (field : Field) : Type 0 where
   pub shape : IsField field
   pub chip : field.chip < chips
 
--- a rail's fields lie on the board, and each selector that it may be moved to fits its field
-pub record IsSoundRail (chips : ℕ) (rail : Rail) : Type 0 where
-  pub enable : IsPlaced chips rail.desc.enable
-  pub selector : IfSome rail.desc.selector (IsPlaced chips)
-  pub moves : rail.changeable ≡ true → IsSome rail.desc.selector
-  pub selectors : IfSome rail.desc.selector (λ field. All (λ pair. FitsField field pair.0) (choices rail))
+-- a field of so many bits
+abbrev pub HasBits : ℕ → Field → Type 0
+HasBits n field = greatest_of field ≡ 2 ^ n - 1
 
--- the boards that are built so far have one rail, which is sound
+-- the on bits are one bit each, and the mode two
+pub record HasWidths (rail : Rail) : Type 0 where
+  pub enable : HasBits 1 rail.desc.enable
+  pub suspend_enable : IfSome rail.desc.suspend_enable (HasBits 1)
+  pub modes : IfSome rail.desc.modes (HasBits 2)
+
+-- what the table says of a value fits the field: a selector that has the value
+pub record HasSelector (rail : Rail) (field : Field) (uv : ℕ) : Type 0 where
+  pub sel : ℕ
+  pub value : uv_of rail.desc.table sel ≡ Some uv
+  pub fits : FitsField field sel
+
+-- the value that the rail is to have in a sleep is one of its table
+abbrev pub SleepsWell : Rail → Option Sleep → Type 0
+SleepsWell rail sleep =
+    IfSome sleep (λ s. IfSome s.uv (λ uv. IfSome rail.desc.suspend_selector (λ field. HasSelector rail field uv)))
+
+-- what holds of a rail by itself, on a board of so many chips
+pub record IsSoundRail (chips : ℕ) (rail : Rail) : Type 0 where
+  -- it is marked changeable exactly where its bounds leave it room
+  pub changeable : rail.changeable ≡ is_span rail.limits.bounds
+  -- each of its fields is one run of bits in a chip of the board
+  pub placed : (part : Part) → IfSome (part_field part rail) (IsPlaced chips)
+  -- every number in its selector field is a selector with a value
+  pub patterns : IfSome rail.desc.selector (λ field. (n : ℕ) → FitsField field n → IsSome (uv_of rail.desc.table n))
+  -- every selector with a value fits that field
+  pub selectors : IfSome rail.desc.selector (λ field. All (λ pair. FitsField field pair.0) (values_of rail.desc.table))
+  -- without that field its value never changes
+  pub moves : rail.changeable ≡ true → IsSome rail.desc.selector
+  -- its other fields are as wide as what they hold
+  pub widths : HasWidths rail
+  -- each value that it is to have in a sleep has a selector that fits
+  pub sleeps : All (SleepsWell rail) rail.limits.sleeps
+  -- there is a value that it may stand at
+  pub some_value : allowed rail ≢ []
+  -- if it counts loads, an allowed mode carries its system load
+  pub loads : counts_loads rail ≡ true → IsSome (mode_of_load rail.desc.greatest rail.limits.allowed rail.limits.system_load)
+
+-- the supply's number
+abbrev pub supply_of : Rail → Option ℕ
+supply_of rail = option_map (λ s. s.0) rail.supply
+
+-- the rail is there, and can change
+abbrev pub changes : Option Rail → Bool
+changes None = false
+changes (Some rail) = rail.changeable
+
+-- the rail's supply can change, and has to stay above it by a dropout
+abbrev pub is_linked : Board → Rail → Bool
+is_linked board rail = not (rail.desc.dropout == 0) && changes (option_and_then (λ s. slice_get board.rails s) (supply_of rail))
+
+-- the graph says of supplies, groups and dropout links what the rails say
+pub record IsGraphOf (board : Board) : Type 0 where
+  pub supplies : board.graph.supply ≡ map supply_of board.rails
+  pub groups : board.graph.group ≡ map (λ rail. rail.group) board.rails
+  pub links : board.graph.link ≡ map (is_linked board) board.rails
+  pub rails : All (λ rail. IfSome rail.supply (λ s. s.0 < length board.rails)) board.rails
+
+-- a byte that is printed, and no blank
+abbrev pub IsPrinted : ℕ → Type 0
+IsPrinted byte = (0x21 ≤ byte) × (byte ≤ 0x7e)
+
+-- no two rails have one name, and each byte of a name is printed
+pub record HasNames (board : Board) : Type 0 where
+  pub differ : AllPairs (λ a b. a.name.bytes ≢ b.name.bytes) board.rails
+  pub printed : All (λ rail. All IsPrinted rail.name.bytes) board.rails
+
+-- what holds of a board by itself; all that works on a board rests on it
 pub record IsValid (board : Board) : Type 0 where
-  pub one : length board.rails ≡ 1
+  -- there is a rail, and each has a number of 16 bits
+  pub some : 0 < length board.rails
+  pub few : length board.rails ≤ 65535
+  -- each rail is sound
   pub rails : All (IsSoundRail board.chips) board.rails
+  -- the graph is that of the rails
+  pub graph : IsGraphOf board
+  -- each rail's group has a spread
+  pub spreads : All (λ rail. rail.group < length board.spread) board.rails
+  -- the rails come up in the order of the graph
+  pub order : IsOrder board.graph board.order
+  -- no rail is coupled with its supply or a supply further up
+  pub apart_from_supply : (upper lower : ℕ) → IsAbove board.graph upper lower → ¬ AreCoupled board.graph upper lower
+  -- names tell the rails apart
+  pub names : HasNames board
+  -- no bit of a register is in two fields
+  pub apart : (r s : ℕ) (part other : Part) (f g : Field) → (r ≢ s) ⊎ (part ≢ other)
+      → field_at board r part ≡ Some f → field_at board s other ≡ Some g → ¬ SharesBit f g
+  -- a changeable rail reaches each of its values by steps that its limits allow
+  pub gaps : (r : ℕ) (rail : Rail) → slice_get board.rails r ≡ Some rail → rail.changeable ≡ true → HasNarrowGaps board r rail

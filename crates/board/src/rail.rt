@@ -5,30 +5,36 @@ ghost use Rattle.board.specs.Table.{passing};
 use crate::constraints::Constraints;
 use crate::desc::Desc;
 use crate::names::Name;
+use crate::part::Part;
 use crate::rail_id::RailId;
-use chip_regs::Regs;
+use chip_regs::{Field, Regs};
 use linear_range::Pick;
 
 /// A rail: how its chip makes it, what the board asks of it, and the rail that supplies it.
 #[derive(Debug, Drop)]
 pub struct Rail {
+    /// No other rail of the board has it.
     pub name: Name,
     pub desc: Desc,
     pub limits: Constraints,
+    /// The rail that feeds this one.
     pub supply: Option<RailId>,
+    /// The group of rails that it is coupled with, or one of its own.
+    pub group: u16,
     /// Both bounds are given, and the least is below the greatest.
     pub changeable: bool,
-    /// The value of a rail that isn't changeable, in µV.
+    /// The value that a rail which isn't changeable has after the load, in µV.
     pub kept_uv: u32,
 }
 
 impl Rail {
-    ghost use Rattle.std.specs.Prelude.{◌≡◌, Some, true, IfSome, filter, length, option_map};
+    ghost use Rattle.std.specs.Prelude.{◌≡◌, Some, true, IfSome, filter, length, nat_eq, option_map};
+    ghost use Rattle.std.specs.List.{list_any};
     ghost use Rattle.linear_range.specs.Values.{pick_high, pick_low};
     ghost use Rattle.linear_range.specs.Pick.{pair_of};
     ghost use Rattle.chip_regs.specs.Registers.{HasChip};
     ghost use Rattle.board.specs.Table.{uv_of};
-    ghost use Rattle.board.specs.Rail.{uv, is_on, is_within, choices, allowed, least as least_of};
+    ghost use Rattle.board.specs.Rail.{uv, is_on, is_within, choices, allowed, least as least_of, part_field};
     ghost use Rattle.board.specs.Valid.{IsSoundRail};
 
     /// Where the rail stands, in µV.
@@ -78,6 +84,29 @@ impl Rail {
             not_below(self.desc.table.selector_low(uv.min(greatest)), least)
         } else {
             self.desc.table.selector_low(uv)
+        }
+    }
+
+    /// Whether the rail may stand at `uv` µV.
+    pub fn allows(&self, uv: u32) -> bool
+        ensures { result ≡ list_any (nat_eq uv) (allowed self.now) }
+    {
+        match self.at_or_above(uv) {
+            Some(pick) => uv == pick.uv,
+            None => false,
+        }
+    }
+
+    /// The field of a part, where the rail has one.
+    pub fn field(&self, part: Part) -> Option<Field>
+        ensures { result ≡ part_field part self.now }
+    {
+        match part {
+            Part::Selector => self.desc.selector,
+            Part::Enable => Some(self.desc.enable),
+            Part::ModePart => self.desc.modes,
+            Part::SuspendEnable => self.desc.suspend_enable,
+            Part::SuspendSelector => self.desc.suspend_selector,
         }
     }
 

@@ -1,27 +1,35 @@
 //! Printed lines: what the format says of each kind of call and answer, and of where a rail stands.
-ghost use Rattle.std.specs.Prelude.{ℕ, ◌≡◌, ◌<◌, ◌^◌, List, length, All, IfOk};
-ghost use Rattle.board.specs.Rail.{uv, IsAllowed};
-ghost use Rattle.board.specs.Valid.{IsValid};
+ghost use Rattle.std.specs.Prelude.{ℕ, ◌≡◌, ◌<◌, ◌^◌, List, [], ◌∷◌, Some, None, length, All, IfOk};
+ghost use Rattle.chip_regs.specs.declared.field.Field.{Field};
+ghost use Rattle.board.specs.Rail.{uv, IsAllowed, part_field};
+ghost use Rattle.board.specs.declared.part.Part.{Part};
+ghost use Rattle.board.specs.declared.part.Part.TheVariants.{Enable};
+ghost use Rattle.board.specs.Valid.{IsValid, IsSoundRail, IsPrinted};
 ghost use Rattle.plain_board.specs.Inv.{Inv};
 ghost use Rattle.plain_board.specs.History.{NamesRail};
 ghost use Rattle.plain_board.specs.Text.{HasRails};
 
 use plain_board::{Answer, Call, HandleRow, Plain, Row, summary};
+use bitflags::Flags;
+use board::laws::lone_is_valid;
 use board::{Board, Constraints, Desc, Handle, Name, Rail, RailId, Table};
+use board_graph::Graph;
 use chip_regs::{Field, Regs};
 use item_list::Items;
-use linear_range::RangeTable;
+use load_modes::Modes;
 use ramp_delay::Times;
-use std::alloc::Global;
+use std::alloc::{AllocError, Global};
 use std::process::Abort;
 use std::test::Fail;
+use voltage_table::VoltList;
 
-/// A board whose one rail `core` is always at 800000 µV.
-fn one_rail(rt: &impl Abort, alloc: Global) -> Result<Board, Fail>
-    ensures valid { IfOk result IsValid }
-    ensures chips { IfOk result (λ board. board.chips ≡ 1) }
-    ensures rails { IfOk result (λ board. length board.rails ≡ 1) }
-    ensures lawful { IfOk result (λ board. (regs : List (List ℕ)) → All (λ rail. IsAllowed rail (uv rail regs)) board.rails) }
+/// A rail `core` that is always at 800000 µV.
+fn core(rt: &impl Abort) -> Result<Rail, Fail>
+    ensures sound { IfOk result (IsSoundRail 1) }
+    ensures printed { IfOk result (λ rail. All IsPrinted rail.name.bytes) }
+    ensures enable_alone { IfOk result (λ rail. (part : Part) (field : Field) → part_field part rail ≡ Some field → part ≡ Enable) }
+    ensures lone { IfOk result (λ rail. (rail.supply ≡ None) × (rail.group ≡ 0) × (rail.limits.max_step ≡ 0)) }
+    ensures lawful { IfOk result (λ rail. (regs : List (List ℕ)) → IsAllowed rail (uv rail regs)) }
 {
     let enable = Field {
         chip: 0,
@@ -30,25 +38,68 @@ fn one_rail(rt: &impl Abort, alloc: Global) -> Result<Board, Fail>
         shift: 0,
     };
     assert!(rt; enable.fits());
-    let core = Rail {
+    Ok(Rail {
         name: Name::from("core")?,
         desc: Desc {
-            table: Table::Ranges(RangeTable::new(&[])?),
+            table: Table::List(VoltList::new(&[800000])?),
             selector: None,
             enable,
+            modes: None,
+            greatest: [0; 4],
+            suspend_enable: None,
+            suspend_selector: None,
+            dropout: 0,
             ramp: 0,
+            enable_time: 0,
         },
         limits: Constraints {
             bounds: None,
+            always_on: false,
+            boot_on: false,
+            allow_load: false,
+            system_load: 0,
             times: Times::default(),
+            enable_ramp: 0,
+            allowed: Modes::empty(),
+            initial: None,
+            max_step: 0,
+            sleeps: [None; 3],
         },
         supply: None,
+        group: 0,
         changeable: false,
         kept_uv: 800000,
+    })
+}
+
+fn list_of<T: Drop>(alloc: Global, item: T) -> Result<Items<T>, AllocError>
+    ensures { IfOk result (λ items. items ≡ item ∷ []) }
+{
+    let mut items = Items::new(alloc);
+    items.push(item)?;
+    Ok(items)
+}
+
+/// A board whose one rail is `core`.
+fn one_rail(rt: &impl Abort, alloc: Global) -> Result<Board, Fail>
+    ensures valid { IfOk result IsValid }
+    ensures chips { IfOk result (λ board. board.chips ≡ 1) }
+    ensures rails { IfOk result (λ board. length board.rails ≡ 1) }
+    ensures lawful { IfOk result (λ board. (regs : List (List ℕ)) → All (λ rail. IsAllowed rail (uv rail regs)) board.rails) }
+{
+    let board = Board {
+        rails: list_of(alloc, core(rt)?)?,
+        spread: list_of(alloc, 0)?,
+        chips: 1,
+        graph: Graph {
+            supply: list_of(alloc, None)?,
+            group: list_of(alloc, 0)?,
+            link: list_of(alloc, false)?,
+        },
+        order: list_of(alloc, 0)?,
     };
-    let mut rails = Items::new(alloc);
-    rails.push(core)?;
-    Ok(Board { rails, chips: 1 })
+    lone_is_valid(&board);
+    Ok(board)
 }
 
 fn open(handle: Handle, exclusive: bool) -> Call

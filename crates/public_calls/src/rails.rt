@@ -1,22 +1,26 @@
 //! Picks within bounds, and what registers say, whose expected values are worked out by hand.
-ghost use Rattle.std.specs.Prelude.{◌≡◌, None, IfOk};
+ghost use Rattle.std.specs.Prelude.{◌≡◌, None, length, IfOk};
 ghost use Rattle.board.specs.Valid.{IsSoundRail};
 
-use board::{Constraints, Desc, Name, Rail, Table};
+use board::{Board, Constraints, Desc, Name, Part, Rail, RailId, Table};
+use bitflags::Flags;
+use board_graph::Graph;
 use chip_regs::{Field, Regs};
+use item_list::Items;
 use linear_range::{LinearRange, Pick, RangeTable};
+use load_modes::Modes;
 use ramp_delay::Times;
-use std::process::Abort;
+use std::alloc::Global;
 use std::test::Fail;
+use voltage_table::VoltList;
 
 /// A rail on 600000 µV and 6250 µV more for each selector up to 127; without bounds it keeps the
 /// value that it has.
-fn core(rt: &impl Abort, bounds: Option<(u32, u32)>) -> Result<Rail, Fail>
+fn core(bounds: Option<(u32, u32)>) -> Result<Rail, Fail>
     ensures { IfOk result (λ rail. bounds ≡ None → IsSoundRail 1 rail) }
 {
     let selector = field(0x10, 0x7f);
     let enable = field(0x20, 0x01);
-    assert!(rt; selector.fits() && enable.fits());
     let range = LinearRange {
         min: 600000,
         min_sel: 0,
@@ -29,13 +33,29 @@ fn core(rt: &impl Abort, bounds: Option<(u32, u32)>) -> Result<Rail, Fail>
             table: Table::Ranges(RangeTable::new(&[range])?),
             selector: Some(selector),
             enable,
+            modes: None,
+            greatest: [0; 4],
+            suspend_enable: None,
+            suspend_selector: None,
+            dropout: 0,
             ramp: 12500,
+            enable_time: 100,
         },
         limits: Constraints {
             bounds,
+            always_on: false,
+            boot_on: false,
+            allow_load: false,
+            system_load: 0,
             times: Times::default(),
+            enable_ramp: 0,
+            allowed: Modes::empty(),
+            initial: None,
+            max_step: 0,
+            sleeps: [None; 3],
         },
         supply: None,
+        group: 0,
         changeable: bounds.is_some(),
         kept_uv: 850000,
     })
@@ -43,7 +63,7 @@ fn core(rt: &impl Abort, bounds: Option<(u32, u32)>) -> Result<Rail, Fail>
 
 /// A field of the one chip, from bit 0 on.
 fn field(reg: u8, mask: u8) -> Field
-    ensures { result.chip ≡ 0 }
+    ensures { result ≡ record { chip = 0; reg = reg; mask = mask; shift = 0 } }
 {
     Field {
         chip: 0,
@@ -59,19 +79,31 @@ fn at(sel: u16, uv: u32) -> Option<Pick> {
 
 #[test]
 fn a_table(rt: HostRuntime) -> Result<(), Fail> {
-    let table = core(&rt, None)?.desc.table;
+    let table = core(None)?.desc.table;
     assert_eq!(rt; table.value(127), Some(1393750));
     assert_eq!(rt; table.value(128), None);
     assert_eq!(rt; table.selector_high(900001), at(49, 906250));
     assert_eq!(rt; table.selector_high(1393751), None);
     assert_eq!(rt; table.selector_low(900001), at(48, 900000));
     assert_eq!(rt; table.selector_low(599999), None);
+    assert_eq!(rt; table.count(), 128);
+    Ok(())
+}
+
+#[test]
+fn a_table_by_a_list(rt: HostRuntime) -> Result<(), Fail> {
+    let table = Table::List(VoltList::new(&[5, 3, 5, 3])?);
+    assert_eq!(rt; table.value(3), Some(3));
+    assert_eq!(rt; table.value(4), None);
+    assert_eq!(rt; table.selector_high(4), at(0, 5));
+    assert_eq!(rt; table.selector_low(4), at(1, 3));
+    assert_eq!(rt; table.count(), 4);
     Ok(())
 }
 
 #[test]
 fn a_rail_within_bounds(rt: HostRuntime) -> Result<(), Fail> {
-    let rail = core(&rt, Some((800000, 1000000)))?;
+    let rail = core(Some((800000, 1000000)))?;
     // uv, the pick from above, the pick from below
     let picks = [
         (0, at(32, 800000), None),
@@ -104,9 +136,51 @@ fn a_rail_within_bounds(rt: HostRuntime) -> Result<(), Fail> {
     Ok(())
 }
 
+/// A board with the rail twice, first within bounds and then without.
+fn two_rails(alloc: Global) -> Result<Board, Fail>
+    ensures { IfOk result (λ board. length board.rails ≡ 2) }
+{
+    let mut rails = Items::new(alloc);
+    rails.push(core(Some((800000, 1000000)))?)?;
+    rails.push(core(None)?)?;
+    Ok(Board {
+        rails,
+        spread: Items::new(alloc),
+        chips: 1,
+        graph: Graph {
+            supply: Items::new(alloc),
+            group: Items::new(alloc),
+            link: Items::new(alloc),
+        },
+        order: Items::new(alloc),
+    })
+}
+
+#[test]
+fn rails_of_a_board(rt: HostRuntime) -> Result<(), Fail> {
+    let board = two_rails(rt.alloc())?;
+    let first = RailId(0);
+    let second = RailId(1);
+    assert!(rt; board.allowed(first, 906250));
+    assert!(rt; !board.allowed(first, 906251));
+    assert!(rt; !board.allowed(first, 1006250));
+    assert!(rt; board.allowed(second, 850000));
+    assert!(rt; !board.allowed(second, 906250));
+    assert_eq!(rt; board.at_or_above(first, 900001), at(49, 906250));
+    assert_eq!(rt; board.at_or_above(second, 900001), None);
+    assert_eq!(rt; board.at_or_below(first, 900001), at(48, 900000));
+    assert_eq!(rt; board.at_or_below(second, 900001), at(0, 850000));
+    let selector = board.field(first, Part::Selector);
+    assert_eq!(rt; selector, Some(field(0x10, 0x7f)));
+    let enable = board.field(second, Part::Enable);
+    assert_eq!(rt; enable, Some(field(0x20, 0x01)));
+    assert_eq!(rt; board.field(second, Part::ModePart), None);
+    Ok(())
+}
+
 #[test]
 fn a_rail_without_bounds(rt: HostRuntime) -> Result<(), Fail> {
-    let rail = core(&rt, None)?;
+    let rail = core(None)?;
     assert_eq!(rt; rail.at_or_above(850000), at(0, 850000));
     assert_eq!(rt; rail.at_or_above(850001), None);
     assert_eq!(rt; rail.at_or_below(850000), at(0, 850000));
@@ -117,7 +191,7 @@ fn a_rail_without_bounds(rt: HostRuntime) -> Result<(), Fail> {
 
 #[test]
 fn what_the_registers_say(rt: HostRuntime) -> Result<(), Fail> {
-    let rail = core(&rt, None)?;
+    let rail = core(None)?;
     let mut regs = Regs::new(rt.alloc(), 1)?;
     // the two registers, µV, whether the rail is on
     let rows = [

@@ -1,65 +1,157 @@
 -- The built-in board is sound, and its rail stands at a value that it may stand at.
-use Rattle.std.proofs.Common.{◌≡◌, ℕ, ◌≤◌, true, List, [], Some, refl, sym, subst, arith, leb, filter, length}
-use Rattle.std.specs.Prelude.{All, IfSome}
-use Rattle.std.specs.List.{list_all}
-use Rattle.std.proofs.lemmas.Bool.{leb-true}
+use Rattle.std.proofs.Common.{◌≡◌, ◌≢◌, ℕ, ◌==◌, ◌≤◌, Bool, true, false, if◌then◌else◌, List, [], ◌∷◌, Some, None, refl, sym, ap, ◌∙◌, subst, arith, leb, eqb, filter, length}
+use Rattle.std.specs.Prelude.{All, IfSome, IsSome, codes}
+use Rattle.std.specs.List.{list_all, list_any}
+use Rattle.std.proofs.lemmas.Bool.{leb-true, false≢true}
+use Rattle.std.proofs.lemmas.Bool.Decides.{nat_tests}
 use Rattle.std.proofs.lemmas.List.Elements.{All-nil, All-cons, All-weaker}
 use Rattle.std.proofs.lemmas.List.Sums.{AllPass-from_list_all}
-use Rattle.linear_range.specs.Values.{values}
-use Rattle.chip_regs.specs.Field.{FitsField}
+use Rattle.linear_range.specs.Values.{value_of, values}
+use Rattle.chip_regs.specs.declared.field.Field.{Field}
+use Rattle.chip_regs.specs.Field.{SharesBit}
 use Rattle.chip_regs.specs.Registers.{byte_of, with_byte, field_of}
 use Rattle.board.specs.declared.rail.Rail.{Rail}
 use Rattle.board.specs.declared.board.Board.{Board}
-use Rattle.board.specs.Rail.{uv, choices, is_within, IsAllowed}
-use Rattle.board.specs.Valid.{IsPlaced, IsSoundRail, IsValid}
+use Rattle.board.specs.declared.part.Part.{Part}
+use Rattle.board.specs.declared.part.Part.TheVariants.{Selector, Enable, ModePart, SuspendEnable, SuspendSelector}
+use Rattle.board.specs.Rail.{uv, allowed, choices, part_field, is_within, IsAllowed}
+use Rattle.board.specs.Lone.{IsLone}
+use Rattle.board.specs.Valid.{IsPlaced, IsPrinted, HasWidths, SleepsWell, IsSoundRail}
 use Rattle.plain_board.specs.declared.plain.Plain.{Plain}
 use Rattle.plain_board.specs.Inv.{Inv}
-use Rattle.regulator_main.specs.Demo.{IsCore, IsDemo, core_ranges, demo_regs, demo_plain}
+use Rattle.regulator_main.specs.Demo.{IsCore, IsDemo, core_ranges, low_bits, demo_regs, demo_plain}
 
 -- the pairs of `core`
 abbrev core_choices : List (ℕ × ℕ)
 core_choices = filter (λ pair. is_within (Some (800000, 1000000)) pair.1) (values core_ranges)
 
 choices-core : (rail : Rail) → IsCore rail → choices rail ≡ core_choices
-choices-core rail core = rw (core.changeable, core.bounds, core.table) refl
+choices-core rail core = rw (core.changeable, core.limits.bounds, core.desc.table) refl
 
--- each of their selectors is a number of 7 bits
-core_selectors_tested : list_all (λ pair. leb pair.0 127) core_choices ≡ true
+-- each selector with a value is a number of 7 bits
+selectors_tested : list_all (λ pair. leb pair.0 127) (values core_ranges) ≡ true
 unfolding values
-core_selectors_tested = refl
+selectors_tested = refl
 
-core_selectors : All (λ pair. pair.0 ≤ 127) core_choices
-core_selectors =
-    All-weaker (λ (pair : ℕ × ℕ). leb pair.0 127 ≡ true) (λ pair. pair.0 ≤ 127) (λ pair. leb-true pair.0 127) core_choices
-    (AllPass-from_list_all (λ pair. leb pair.0 127) core_choices core_selectors_tested)
+selectors_fit : All (λ pair. pair.0 ≤ 127) (values core_ranges)
+selectors_fit =
+    All-weaker (λ (pair : ℕ × ℕ). leb pair.0 127 ≡ true) (λ pair. pair.0 ≤ 127) (λ pair. leb-true pair.0 127) (values core_ranges)
+    (AllPass-from_list_all (λ pair. leb pair.0 127) (values core_ranges) selectors_tested)
 
-core_enable : (rail : Rail) → IsCore rail → IsPlaced 1 rail.desc.enable
-core_enable rail core =
-    rw core.enable (record { shape = record { width = 1; some_bit = omega arith; within = omega arith; run = refl }; chip = omega arith })
+-- each number of 7 bits is a selector with a value
+has_uv : (n : ℕ) → n ≤ 127 → IsSome (value_of core_ranges n)
+has_uv n within = let low : leb 0 n ≡ true = grind (arith, nat_tests) in let high : leb n 127 ≡ true = grind (arith, nat_tests) in rw (low, high) refl
 
-core_selector : (rail : Rail) → IsCore rail → IfSome rail.desc.selector (IsPlaced 1)
-core_selector rail core =
-    rw core.selector (record { shape = record { width = 7; some_bit = omega arith; within = omega arith; run = refl }; chip = omega arith })
+-- the register of each part of `core`
+core_reg : Part → ℕ
+core_reg Selector = 0x10
+core_reg Enable = 0x20
+core_reg ModePart = 0x30
+core_reg SuspendEnable = 0x21
+core_reg SuspendSelector = 0x40
 
-core_fits : (rail : Rail) → IsCore rail → IfSome rail.desc.selector (λ field. All (λ pair. FitsField field pair.0) (choices rail))
-core_fits rail core = rw (core.selector, choices-core rail core) core_selectors
+core_mask : Part → ℕ
+core_mask Selector = 0x7f
+core_mask Enable = 0x01
+core_mask ModePart = 0x03
+core_mask SuspendEnable = 0x01
+core_mask SuspendSelector = 0x7f
 
-core_sound : (rail : Rail) → IsCore rail → IsSoundRail 1 rail
-core_sound rail core = record {
-  enable = core_enable rail core;
-  selector = core_selector rail core;
-  moves = λ _. rw core.selector refl;
-  selectors = core_fits rail core;
+core_width : Part → ℕ
+core_width Selector = 7
+core_width Enable = 1
+core_width ModePart = 2
+core_width SuspendEnable = 1
+core_width SuspendSelector = 7
+
+-- the part of `core` that has a register
+part_at : ℕ → Part
+part_at reg = if reg == 0x10 then Selector else if reg == 0x20 then Enable else if reg == 0x30 then ModePart else if reg == 0x21 then SuspendEnable else SuspendSelector
+
+part_at-core_reg : (part : Part) → part_at (core_reg part) ≡ part
+unfolding part_at core_reg
+part_at-core_reg Selector = refl
+part_at-core_reg Enable = refl
+part_at-core_reg ModePart = refl
+part_at-core_reg SuspendEnable = refl
+part_at-core_reg SuspendSelector = refl
+
+core_bits : Part → Field
+core_bits part = low_bits (core_reg part) (core_mask part)
+
+core_field : (rail : Rail) → IsCore rail → (part : Part) → part_field part rail ≡ Some (core_bits part)
+unfolding core_bits core_reg core_mask
+core_field rail core Selector = core.desc.selector
+core_field rail core Enable = ap Some core.desc.enable
+core_field rail core ModePart = core.desc.modes
+core_field rail core SuspendEnable = core.desc.suspend_enable
+core_field rail core SuspendSelector = core.desc.suspend_selector
+
+core_shape : (part : Part) → IsPlaced 1 (core_bits part)
+unfolding core_bits core_reg core_mask
+core_shape Selector = record { shape = record { width = 7; some_bit = omega arith; within = omega arith; run = refl }; chip = omega arith }
+core_shape Enable = record { shape = record { width = 1; some_bit = omega arith; within = omega arith; run = refl }; chip = omega arith }
+core_shape ModePart = record { shape = record { width = 2; some_bit = omega arith; within = omega arith; run = refl }; chip = omega arith }
+core_shape SuspendEnable = record { shape = record { width = 1; some_bit = omega arith; within = omega arith; run = refl }; chip = omega arith }
+core_shape SuspendSelector = record { shape = record { width = 7; some_bit = omega arith; within = omega arith; run = refl }; chip = omega arith }
+
+core_placed : (rail : Rail) → IsCore rail → (part : Part) → IfSome (part_field part rail) (IsPlaced 1)
+core_placed rail core part = rw (core_field rail core part) (core_shape part)
+
+core_widths : (rail : Rail) → IsCore rail → HasWidths rail
+core_widths rail core = record {
+  enable = rw core.desc.enable refl;
+  suspend_enable = rw core.desc.suspend_enable refl;
+  modes = rw core.desc.modes refl;
 }
 
--- after the reset `core` stands at 800000 µV
-uv-core : (rail : Rail) → IsCore rail → uv rail demo_regs ≡ 800000
-unfolding demo_regs with_byte byte_of field_of
-uv-core rail core = rw (core.selector, core.table) refl
+-- fields of different parts are in different registers
+core_apart : (rail : Rail) → IsCore rail → (part other : Part) (f g : Field) → part ≢ other → part_field part rail ≡ Some f → part_field other rail ≡ Some g → SharesBit f g → ⊥
+unfolding core_bits
+core_apart rail core part other f g differ first second shared =
+    let f_is : core_bits part ≡ f = cc (core_field rail core part) in
+    let g_is : core_bits other ≡ g = cc (core_field rail core other) in
+    let regs : core_reg part ≡ core_reg other =
+    ap (λ (h : Field). h.reg) f_is ∙ shared.in_first.1 ∙ sym shared.in_second.1 ∙ ap (λ (h : Field). h.reg) (sym g_is) in
+    differ (sym (part_at-core_reg part) ∙ ap part_at regs ∙ part_at-core_reg other)
 
 core_allowed : (rail : Rail) → IsCore rail → IsAllowed rail 800000
 unfolding values
 core_allowed rail core = rw (choices-core rail core) refl
+
+some_value : (rail : Rail) → IsCore rail → allowed rail ≢ []
+some_value rail core none = let here = core_allowed rail core in false≢true (ap (list_any (eqb 800000)) (sym none) ∙ here)
+
+no_sleeps : (rail : Rail) → All (SleepsWell rail) (None ∷ None ∷ None ∷ [])
+no_sleeps rail = All-cons (SleepsWell rail) None (None ∷ None ∷ []) tt (All-cons (SleepsWell rail) None (None ∷ []) tt (All-cons (SleepsWell rail) None [] tt (All-nil (SleepsWell rail))))
+
+core_sound : (rail : Rail) → IsCore rail → IsSoundRail 1 rail
+core_sound rail core = record {
+  changeable = rw (core.changeable, core.limits.bounds) refl;
+  placed = core_placed rail core;
+  patterns = rw (core.desc.selector, core.desc.table) has_uv;
+  selectors = rw (core.desc.selector, core.desc.table) selectors_fit;
+  moves = λ _. rw core.desc.selector refl;
+  widths = core_widths rail core;
+  sleeps = subst (All (SleepsWell rail)) (sym core.limits.sleeps) (no_sleeps rail);
+  some_value = some_value rail core;
+  loads = λ counts. let counted : false ≡ true = rw core.limits.allow_load at counts in absurd (false≢true counted);
+}
+
+printed_name : All IsPrinted (codes "core")
+printed_name =
+    All-cons IsPrinted 99 (111 ∷ 114 ∷ 101 ∷ []) (omega arith, omega arith)
+    (All-cons IsPrinted 111 (114 ∷ 101 ∷ []) (omega arith, omega arith)
+    (All-cons IsPrinted 114 (101 ∷ []) (omega arith, omega arith)
+    (All-cons IsPrinted 101 [] (omega arith, omega arith) (All-nil IsPrinted))))
+
+core_printed : (rail : Rail) → IsCore rail → All IsPrinted rail.name.bytes
+core_printed rail core = subst (All IsPrinted) (sym core.name) printed_name
+
+-- after the reset `core` stands at 800000 µV
+uv-core : (rail : Rail) → IsCore rail → uv rail demo_regs ≡ 800000
+unfolding demo_regs with_byte byte_of field_of
+uv-core rail core = rw (core.desc.selector, core.desc.table) refl
 
 core_lawful : (rail : Rail) → IsCore rail → IsAllowed rail (uv rail demo_regs)
 core_lawful rail core = rw (uv-core rail core) (core_allowed rail core)
@@ -68,10 +160,19 @@ length-demo_regs : length demo_regs ≡ 1
 unfolding demo_regs with_byte
 length-demo_regs = refl
 
-pub demo_valid : (board : Board) → IsDemo board → IsValid board
-demo_valid board demo = record {
-  one = rw demo.rails refl;
-  rails = rw (demo.rails, demo.chips) (All-cons (IsSoundRail 1) demo.core [] (core_sound demo.core demo.is_core) (All-nil (IsSoundRail 1)));
+pub demo_lone : (board : Board) → IsDemo board → IsLone board
+demo_lone board demo = record {
+  rail = demo.core;
+  rails = demo.rails;
+  sound = rw demo.chips (core_sound demo.core demo.is_core);
+  printed = core_printed demo.core demo.is_core;
+  apart = core_apart demo.core demo.is_core;
+  supply = demo.is_core.supply;
+  group = demo.is_core.group;
+  steps = demo.is_core.limits.max_step;
+  spread = demo.spread;
+  graph = demo.graph;
+  order = demo.order;
 }
 
 pub demo_inv : (board : Board) (plain : Plain) → IsDemo board → plain ≡ demo_plain → Inv board plain

@@ -28,3 +28,4 @@ mod Took
 mod Walked
 mod Way
 mod WorkerPlaces
+pub mod Beside

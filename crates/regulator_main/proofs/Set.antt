@@ -17,11 +17,12 @@ use Rattle.plain_board.specs.declared.handle_row.HandleRow.{HandleRow}
 use Rattle.plain_board.specs.declared.plain.Plain.{Plain}
 use Rattle.plain_board.specs.Answer.{Grip, grip_of, target_of}
 use Rattle.plain_board.specs.Inv.{Inv}
-use Rattle.plain_board.specs.Law.{StandsWell, Law, Throughout}
+use Rattle.plain_board.specs.Law.{Law, Throughout}
 use Rattle.plain_board.specs.Moves.{Move, field_of_move, written}
 use Rattle.plain_board.specs.Requests.{is_own, others, meets}
 use Rattle.regulator_main.specs.Desk.{Moves, IsKept, Performs}
-use Rattle.regulator_main.specs.Walk.{Updates}
+use Rattle.regulator_main.specs.Walk.{Updates, MovesAlone}
+use Rattle.regulator_main.proofs.Beside.{still_lawful}
 use Rattle.regulator_main.proofs.Ordered.{has, has-filter, or_true}
 use Rattle.regulator_main.proofs.Nearest.{right_true}
 use Rattle.regulator_main.proofs.Stopped.{get_within}
@@ -57,28 +58,15 @@ pub target_by : (plain : Plain) (worker : ℕ) (name : List ℕ) (request bounds
     → target_of plain worker name request grip ≡ least (filter (is_within (Some bounds)) (allowed grip.rail))
 target_by plain worker name request bounds grip same = ap least (filter_agree (λ v. list_all (meets v) (request ∷ others plain worker name grip.id.0)) (is_within (Some bounds)) same (allowed grip.rail))
 
--- a list of one element
-single : {X : Type 0} (xs : List X) (k : ℕ) (x : X) → length xs ≡ 1 → slice_get xs k ≡ Some x → xs ≡ x ∷ []
-single [] k x one is = cc
-single (y ∷ []) zero x one is = let e : y ≡ x = cc in ap (λ z. z ∷ []) e
-single (y ∷ []) (suc k) x one is = cc
-single (y ∷ z ∷ zs) k x one is = absurd (omega arith)
-
 -- what follows from a fact of the registers holds where it does
 throughout_weaker : (P Q : List (List ℕ) → Type 0) (board : Board) (regs : List (List ℕ)) (moves : List Move) → ((r : List (List ℕ)) → P r → Q r) → Throughout P board regs moves → Throughout Q board regs moves
 throughout_weaker P Q board regs [] weaker is = weaker regs is
 throughout_weaker P Q board regs (move ∷ moves) weaker is = (weaker regs is.0, throughout_weaker P Q board (written (field_of_move board move) regs move.bits) moves weaker is.1)
 
--- the law, by the one rail
-law_of_one : (board : Board) (grip : Grip) (regs : List (List ℕ)) → IsValid board → slice_get board.rails grip.id.0 ≡ Some grip.rail → StandsWell grip.rail regs → Law board regs
-law_of_one board grip regs valid there stands =
-    subst (All (λ rail. StandsWell rail regs)) (sym (single board.rails grip.id.0 grip.rail valid.one there))
-    (All-cons (λ rail. StandsWell rail regs) grip.rail [] stands (All-nil (λ rail. StandsWell rail regs)))
-
 -- what holds of the plain board still holds
 pub inv_kept : (board : Board) (plain plain' : Plain) (grip : Grip) → IsValid board → Inv board plain → slice_get board.rails grip.id.0 ≡ Some grip.rail → IsKept plain plain' grip → Inv board plain'
 inv_kept board plain plain' grip valid inv there kept = record {
-  law = law_of_one board grip plain'.regs valid there kept.lawful;
+  law = still_lawful board valid grip.id.0 grip.rail plain.regs plain'.regs inv.law there (kept.lawful, kept.others);
   regs = kept.chips ∙ inv.regs;
   holds = ap length kept.holds ∙ inv.holds;
   events = ap length kept.events ∙ inv.events;
@@ -105,7 +93,7 @@ module _ (board : Board) (plain : Plain) (valid : IsValid board) (law : Law boar
     within = rw (is, straight, some) moves.within;
     answered = rw (is, straight, some) moves.answered;
     rails = moves.rails;
-    lawful = rw (is, straight, some) (throughout_weaker (StandsWell grip.rail) (Law board) board plain.regs _ (λ regs. law_of_one board grip regs valid there) moves.lawful);
+    lawful = rw (is, straight, some) (throughout_weaker (MovesAlone grip.rail plain.regs) (Law board) board plain.regs _ (λ regs. still_lawful board valid grip.id.0 grip.rail plain.regs regs law there) moves.lawful);
     updates = rw (is, straight, some) moves.updates;
     faults = moves.faults;
   }

@@ -1,10 +1,10 @@
 -- The moves of a walk, one at a time.
-use Rattle.std.proofs.Common.{◌≡◌, append-nil, ℕ, ◌+◌, ◌*◌, ◌^◌, ◌/◌, ◌%◌, ◌<◌, ◌≤◌, ◌⊎◌, inl, inr, Bool, true, false, cond, eqb, List, [], ◌∷◌, ◌++◌, Option, Some, refl, sym, subst, ap, ◌∙◌, arith, map, find, take, drop, length, get_or}
+use Rattle.std.proofs.Common.{◌≡◌, append-nil, ℕ, ◌+◌, ◌*◌, ◌^◌, ◌/◌, ◌%◌, ◌<◌, ◌≤◌, ◌⊎◌, inl, inr, Bool, true, false, cond, eqb, List, [], ◌∷◌, ◌++◌, Option, Some, refl, sym, subst, ap, ◌∙◌, arith, map, filter, find, take, drop, length, get_or}
 use Rattle.std.specs.Prelude.{slice_get, All, IfSome}
 use Rattle.std.proofs.Math.Nat.{div-le_self, div-mul-le_self, mod-eq_of_lt, mul-le-mul_right}
 use Rattle.std.proofs.lemmas.Bool.{cases_lt}
 use Rattle.std.proofs.lemmas.List.{drop_all, drop_more, take_more, take-append-drop, map-append}
-use Rattle.std.proofs.lemmas.List.Elements.{All-head, All-tail}
+use Rattle.std.proofs.lemmas.List.Elements.{All-nil, All-cons, All-head, All-tail, All-filter}
 use Rattle.chip_regs.specs.declared.field.Field.{Field}
 use Rattle.chip_regs.specs.Field.{FitsField}
 use Rattle.chip_regs.specs.Registers.{field_of}
@@ -12,13 +12,13 @@ use Rattle.board.specs.declared.board.Board.{Board}
 use Rattle.board.specs.declared.rail.Rail.{Rail}
 use Rattle.board.specs.declared.rail_id.RailId.{RailId}
 use Rattle.board.specs.declared.part.Part.TheVariants.{Selector}
-use Rattle.board.specs.Table.{uv_of}
-use Rattle.board.specs.Rail.{allowed, choices, uv}
+use Rattle.board.specs.Table.{uv_of, values_of}
+use Rattle.board.specs.Rail.{allowed, choices, uv, is_within}
 use Rattle.plain_board.specs.Law.{StandsWell, Throughout}
 use Rattle.plain_board.specs.Moves.{Move, after_moves, writes_of, moves_to, field_of_move, way, selector_for, update_of_field, written}
 use Rattle.reg_outside.specs.Told.{with_more}
 use Rattle.reg_outside.specs.ToldFacts.{with_more-nil, with_more-with_more}
-use Rattle.regulator_main.specs.Walk.{Makes, Updates, update_of}
+use Rattle.regulator_main.specs.Walk.{Makes, MovesAlone, Updates, update_of}
 use Rattle.regulator_main.proofs.Nearest.{IsFirst}
 use Rattle.regulator_main.proofs.Steps.{way-same}
 
@@ -60,7 +60,7 @@ pub walked_more : (board : Board) (rail : Rail) (moves : List Move) (regs regs' 
     → Walked board rail moves regs regs' told told' made → drop made moves ≡ move ∷ rest
     → regs'' ≡ written (field_of_move board move) regs' move.bits
     → told'' ≡ with_more told' (update_of (update_of_field (field_of_move board move) move.bits) ∷ [])
-    → StandsWell rail regs''
+    → MovesAlone rail regs regs''
     → Walked board rail moves regs regs'' told told'' (made + 1)
 walked_more board rail moves regs regs' regs'' told told' told'' made move rest walked next registers updates stands =
     let within = within_from_rest moves made move rest next in
@@ -71,9 +71,9 @@ walked_more board rail moves regs regs' regs'' told told' told'' made move rest 
       makes = record {
         registers = registers ∙ ap (λ r. written (field_of_move board move) r move.bits) walked.makes.registers
             ∙ sym (after_moves-append board regs (take made moves) (move ∷ [])) ∙ ap (after_moves board regs) (sym taken);
-        lawful = subst (λ (ms : List Move). Throughout (StandsWell rail) board regs ms) (sym taken)
-            (throughout_more (StandsWell rail) board regs (take made moves) move walked.makes.lawful
-            (subst (StandsWell rail) (registers ∙ ap (λ r. written (field_of_move board move) r move.bits) walked.makes.registers) stands));
+        lawful = subst (λ (ms : List Move). Throughout (MovesAlone rail regs) board regs ms) (sym taken)
+            (throughout_more (MovesAlone rail regs) board regs (take made moves) move walked.makes.lawful
+            (subst (MovesAlone rail regs) (registers ∙ ap (λ r. written (field_of_move board move) r move.bits) walked.makes.registers) stands));
         updates = updates ∙ ap (λ t. with_more t (update_of (update_of_field (field_of_move board move) move.bits) ∷ [])) walked.makes.updates
             ∙ with_more-with_more told (map update_of (writes_of board (take made moves))) (update_of (update_of_field (field_of_move board move) move.bits) ∷ [])
             ∙ ap (with_more told) (
@@ -90,7 +90,7 @@ rest_more moves made move rest next =
 
 -- no move was made yet
 pub walked_none : (board : Board) (rail : Rail) (moves : List Move) (regs : List (List ℕ)) (told : Option Updates) → StandsWell rail regs → Walked board rail moves regs regs told told 0
-walked_none board rail moves regs told stands = record { within = omega arith; makes = record { registers = refl; lawful = stands; updates = sym (with_more-nil told) } }
+walked_none board rail moves regs told stands = record { within = omega arith; makes = record { registers = refl; lawful = (stands, λ other apart. refl); updates = sym (with_more-nil told) } }
 
 -- the selector of a value is that of the first pair with it
 pub selector_for-first : (rail : Rail) (p : ℕ × ℕ) → IsFirst (choices rail) p → selector_for rail p.1 ≡ p.0
@@ -110,11 +110,17 @@ pub found_has : {X : Type 0} (P : X → Type 0) (test : X → Bool) (xs : List X
 found_has P test [] x all is = cc
 found_has P test (y ∷ ys) x all is = found_step P test y ys x (test y) all is (found_has P test ys x (All-tail P y ys all))
 
+-- a choice is one of the table, or has the selector 0
+fit_choices : (rail : Rail) (field : Field) (t : Bool) → All (λ pair. FitsField field pair.0) (values_of rail.desc.table)
+    → All (λ pair. FitsField field pair.0) (cond t (filter (λ pair. is_within rail.limits.bounds pair.1) (values_of rail.desc.table)) ((0, rail.kept_uv) ∷ []))
+fit_choices rail field true fits = All-filter (λ pair. is_within rail.limits.bounds pair.1) (λ pair. FitsField field pair.0) (values_of rail.desc.table) fits
+fit_choices rail field false fits = All-cons (λ (pair : ℕ × ℕ). FitsField field pair.0) (0, rail.kept_uv) [] (omega arith) (All-nil (λ (pair : ℕ × ℕ). FitsField field pair.0))
+
 -- the selector of a choice fits the rail's field
-pub choice_fits : (rail : Rail) (field : Field) (p : ℕ × ℕ) → rail.desc.selector ≡ Some field → IfSome rail.desc.selector (λ f. All (λ pair. FitsField f pair.0) (choices rail)) → IsFirst (choices rail) p → FitsField field p.0
+pub choice_fits : (rail : Rail) (field : Field) (p : ℕ × ℕ) → rail.desc.selector ≡ Some field → IfSome rail.desc.selector (λ f. All (λ pair. FitsField f pair.0) (values_of rail.desc.table)) → IsFirst (choices rail) p → FitsField field p.0
 choice_fits rail field p selector fits first =
     found_has (λ pair. FitsField field pair.0) (λ q. eqb q.1 p.1) (choices rail) p
-    (subst (λ (o : Option Field). IfSome o (λ f. All (λ pair. FitsField f pair.0) (choices rail))) selector fits) first
+    (fit_choices rail field rail.changeable (subst (λ (o : Option Field). IfSome o (λ f. All (λ pair. FitsField f pair.0) (values_of rail.desc.table))) selector fits)) first
 
 -- a field has at most a byte's numbers
 pub fits_byte : (field : Field) (n : ℕ) → FitsField field n → field.mask < 256 → n < 256
@@ -151,4 +157,4 @@ walked_all board rail moves regs regs' told told' made walked none =
 pub makes_none : (board : Board) (id : RailId) (rail : Rail) (from to : ℕ) (regs : List (List ℕ)) (told : Option Updates) → from ≡ to → StandsWell rail regs → Makes board rail (moves_to id rail from to) regs regs told told
 makes_none board id rail from to regs told there stands =
     subst (λ (moves : List Move). Makes board rail moves regs regs told told) (sym (ap (λ v. moves_to id rail v to) there ∙ moves_to-same id rail to))
-    (record { registers = refl; lawful = stands; updates = sym (with_more-nil told) })
+    (record { registers = refl; lawful = (stands, λ other apart. refl); updates = sym (with_more-nil told) })

@@ -14,7 +14,7 @@ use Rattle.plain_board.specs.History.{stop_of, IsWithinPlan, made_of}
 use Rattle.plain_board.specs.Law.{StandsWell, Law, Throughout}
 use Rattle.plain_board.specs.Moves.{moves_to, writes_of}
 use Rattle.plain_board.specs.Text.{HasRails}
-use Rattle.regulator_main.specs.Walk.{Updates, update_of}
+use Rattle.regulator_main.specs.Walk.{Updates, update_of, IsSameBeside, MovesAlone}
 
 -- a fault was counted, and nothing else was
 abbrev pub CountsFault : Answer → ℕ → ℕ → Type 0
@@ -22,19 +22,21 @@ CountsFault (Fault chip reg applied now) count count' = Rose count count'
 CountsFault _ count count' = count' ≡ count
 
 -- What a set does once its target is known: it is answered as on the plain board, the wire took
--- the moves that were made, the rail stood well all the time, and the wire counted a fault exactly
--- where the answer is one.
+-- the moves that were made, the rail alone moved and stood well all the time, and the wire counted
+-- a fault exactly where the answer is one.
 pub record Moves (board : Board) (plain plain' : Plain) (grip : Grip) (request : ℕ × ℕ) (target : ℕ) (said : Answer) (told told' : Option Updates) (count count' : ℕ) : Type 0 where
   pub within : IsWithinPlan (stop_of said) (moves_to grip.id grip.rail (uv grip.rail plain.regs) target)
   pub answered : set_to board plain request grip (Some target) (stop_of said) ≡ (said, plain')
   pub rails : HasRails board said
-  pub lawful : Throughout (StandsWell grip.rail) board plain.regs (made_of (stop_of said) (moves_to grip.id grip.rail (uv grip.rail plain.regs) target))
+  pub lawful : Throughout (MovesAlone grip.rail plain.regs) board plain.regs (made_of (stop_of said) (moves_to grip.id grip.rail (uv grip.rail plain.regs) target))
   pub updates : told' ≡ with_more told (map update_of (writes_of board (made_of (stop_of said) (moves_to grip.id grip.rail (uv grip.rail plain.regs) target))))
   pub faults : CountsFault said count count'
 
--- the rail stands at an allowed value, one handle has another row, and all else is as it was
+-- the rail stands at an allowed value, one handle has another row, and all else is as it was, each
+-- field beside the rail's selector too
 pub record IsKept (plain plain' : Plain) (grip : Grip) : Type 0 where
   pub lawful : StandsWell grip.rail plain'.regs
+  pub others : IsSameBeside grip.rail.desc.selector plain.regs plain'.regs
   pub chips : length plain'.regs ≡ length plain.regs
   pub holds : plain'.holds ≡ plain.holds
   pub events : plain'.events ≡ plain.events

@@ -1,12 +1,17 @@
 ghost use Rattle.std.specs.Prelude.{◌≡◌, IfOk, codes};
 ghost use Rattle.board.specs.Valid.{IsValid};
 ghost use Rattle.plain_board.specs.Inv.{Inv};
+ghost use Rattle.board.specs.Lone.{lone_graph};
 ghost use Rattle.regulator_main.specs.Demo.{IsCore, IsDemo, core_ranges, demo_regs, demo_plain};
 
+use bitflags::Flags;
+use board::laws::lone_is_valid;
 use board::{Board, Constraints, Desc, Name, Rail, Table};
+use board_graph::Graph;
 use chip_regs::{Field, Regs};
 use item_list::Items;
 use linear_range::{LinearRange, RangeTable};
+use load_modes::Modes;
 use plain_board::Plain;
 use ramp_delay::Times;
 use std::alloc::{AllocError, Global};
@@ -50,13 +55,44 @@ fn core() -> Rail
                 mask: 0x01,
                 shift: 0,
             },
+            modes: Some(Field {
+                chip: 0,
+                reg: 0x30,
+                mask: 0x03,
+                shift: 0,
+            }),
+            greatest: [3000000, 1000000, 50000, 5000],
+            suspend_enable: Some(Field {
+                chip: 0,
+                reg: 0x21,
+                mask: 0x01,
+                shift: 0,
+            }),
+            suspend_selector: Some(Field {
+                chip: 0,
+                reg: 0x40,
+                mask: 0x7f,
+                shift: 0,
+            }),
+            dropout: 0,
             ramp: 12500,
+            enable_time: 100,
         },
         limits: Constraints {
             bounds: Some((800000, 1000000)),
+            always_on: false,
+            boot_on: false,
+            allow_load: false,
+            system_load: 0,
             times: Times::default(),
+            enable_ramp: 0,
+            allowed: Modes::from_bits_retain(15),
+            initial: None,
+            max_step: 0,
+            sleeps: [None; 3],
         },
         supply: None,
+        group: 0,
         changeable: true,
         kept_uv: 800000,
     }
@@ -73,13 +109,40 @@ fn reset_regs(alloc: Global) -> Result<Regs, AllocError>
     Ok(regs)
 }
 
+/// The graph of one rail without a supply.
+fn lone_graph(alloc: Global) -> Result<Graph, AllocError>
+    ensures { IfOk result (λ graph. graph ≡ lone_graph) }
+{
+    let mut supply = Items::new(alloc);
+    supply.push(None)?;
+    let mut group = Items::new(alloc);
+    group.push(0)?;
+    let mut link = Items::new(alloc);
+    link.push(false)?;
+    Ok(Graph {
+        supply,
+        group,
+        link,
+    })
+}
+
 /// The board `demo`.
 fn demo_board(alloc: Global) -> Result<Board, AllocError>
     ensures { IfOk result IsDemo }
 {
     let mut rails = Items::new(alloc);
     rails.push(core())?;
-    Ok(Board { rails, chips: 1 })
+    let mut spread = Items::new(alloc);
+    spread.push(0)?;
+    let mut order = Items::new(alloc);
+    order.push(0)?;
+    Ok(Board {
+        rails,
+        spread,
+        chips: 1,
+        graph: lone_graph(alloc)?,
+        order,
+    })
 }
 
 /// Its plain board.
@@ -108,6 +171,7 @@ pub(crate) fn demo(alloc: Global) -> Result<(Board, Plain), AllocError>
     ensures inv { IfOk result (λ made. Inv made.0 made.1) }
 {
     let board = demo_board(alloc)?;
+    lone_is_valid(&board);
     let plain = demo_plain(alloc)?;
     Ok((board, plain))
 }

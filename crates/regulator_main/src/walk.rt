@@ -9,7 +9,7 @@ ghost use Rattle.board.specs.Table.{uv_of};
 ghost use Rattle.board.specs.Rail.{allowed, choices, uv, IsAllowed};
 ghost use Rattle.board.specs.Valid.{IsSoundRail};
 ghost use Rattle.plain_board.specs.Moves.{way, moves_to};
-ghost use Rattle.regulator_main.specs.Walk.{Makes};
+ghost use Rattle.regulator_main.specs.Walk.{Makes, IsSameBeside};
 
 use board::{Board, Rail, RailId};
 use chip_regs::{Bits, Field, Regs};
@@ -78,6 +78,7 @@ fn write_field<W: Wire>(
     ensures same_registers { OnErr result (regs.new ≡ regs.old) }
     ensures not_told { OnErr result (W.accepted wire.new ≡ W.accepted wire.old) }
     ensures fault { OnErr result (Rose (W.faults wire.old) (W.faults wire.new)) }
+    ensures others { IsSameBeside (Some field.now) regs.old regs.new }
     ensures chips { length regs.new ≡ length regs.old }
 {
     wire.update(field.chip, field.reg, field.mask, bits << field.shift)?;
@@ -107,6 +108,7 @@ pub(crate) fn walk<W: Wire>(
     ensures before_the_end { IfErr result (λ made. made < length (moves_to id rail.now (uv rail.now regs.old) target)) }
     ensures stopped { IfErr result (λ made. Makes board.now rail.now (take made (moves_to id rail.now (uv rail.now regs.old) target)) regs.old regs.new (W.accepted wire.old) (W.accepted wire.new)) }
     ensures fault { OnErr result (Rose (W.faults wire.old) (W.faults wire.new)) }
+    ensures others { IsSameBeside (Some field) regs.old regs.new }
     ensures chips { length regs.new ≡ length regs.old }
     ensures lawful { IsAllowed rail.now (uv rail.now regs.new) }
 {
@@ -142,6 +144,7 @@ pub(crate) fn settle<W: Wire>(
     ensures before_the_end { IfErr result (λ stop. stop.1 < length (moves_to id rail.now (uv rail.now regs.old) target)) }
     ensures stopped { IfErr result (λ stop. Makes board.now rail.now (take stop.1 (moves_to id rail.now (uv rail.now regs.old) target)) regs.old regs.new (W.accepted wire.old) (W.accepted wire.new)) }
     ensures fault { OnErr result (Rose (W.faults wire.old) (W.faults wire.new)) }
+    ensures others { IsSameBeside rail.now.desc.selector regs.old regs.new }
     ensures chips { length regs.new ≡ length regs.old }
     ensures law { IsAllowed rail.now (uv rail.now regs.new) }
 {

@@ -1,9 +1,13 @@
-use Rattle.std.proofs.Common.{◌≡◌, ◌∷◌, sym, subst, ◌∙◌, arith, drop}
+use Rattle.std.proofs.Common.{◌≡◌, ◌∷◌, Option, Some, sym, subst, ◌∙◌, arith, drop, length}
+use Rattle.std.specs.Prelude.{IfSome}
 use Rattle.linear_range.specs.Pick.{pair_of}
+use Rattle.chip_regs.specs.declared.field.Field.{Field}
 use Rattle.chip_regs.specs.Field.{FitsField}
 use Rattle.board.specs.declared.part.Part.TheVariants.{Selector}
 use Rattle.board.specs.Rail.{uv, IsAllowed}
+use Rattle.board.specs.Valid.{IsPlaced}
 use Rattle.plain_board.specs.Moves.{Move, moves_to, selector_for}
+use Rattle.regulator_main.specs.Walk.{IsSameBeside}
 use Rattle.regulator_main.proofs.Walked.{walked_more, rest_more, walked_all, selector_for-first, field_of_selector, choice_fits, fits_byte, uv_written, moves_to-step, none_left}
 use Rattle.regulator_main.proofs.walk.walk.Given as given
 use Rattle.regulator_main.proofs.walk.walk.Goals as goal
@@ -12,6 +16,16 @@ use Rattle.regulator_main.proofs.walk.walk.Goals.{After-toward-pick}
 -- the selector that is written fits its field
 fits : (g : given.Over) (c : After-toward-pick g) → FitsField c.args.field c.toward-pick.result.sel
 fits g c = choice_fits c.args.rail.now c.args.field (pair_of c.toward-pick.result) c.requires.selector c.requires.sound.selectors c.toward-pick.ensures.first
+
+-- the selector's field is in the registers
+placed : (g : given.Over) (c : After-toward-pick g) → IsPlaced (length c.args.regs.now) c.args.field
+placed g c = subst (λ (o : Option Field). IfSome o (IsPlaced (length c.args.regs.now))) c.requires.selector (c.requires.sound.placed Selector)
+
+pub write_field-requires-clause-field : goal.write_field-requires-clause-field
+write_field-requires-clause-field g c = (placed g (goal.at.write_field-requires-clause-field g c).After-toward-pick).shape
+
+pub write_field-requires-clause-chip : goal.write_field-requires-clause-chip
+write_field-requires-clause-chip g c = let here = (placed g (goal.at.write_field-requires-clause-chip g c).After-toward-pick).chip in omega (arith, c.loop-at.invariant.chips)
 
 -- the next move
 abbrev move : (g : given.Over) (c : After-toward-pick g) → Move
@@ -38,14 +52,16 @@ loop-at-preserved g c =
     let field_is = field_of_selector c.args.board.now c.args.id c.args.rail.now c.args.field (selector_for c.args.rail.now c.toward-pick.result.uv) c.requires.place c.requires.selector in
     let sel_is = selector_for-first c.args.rail.now (pair_of c.toward-pick.result) c.toward-pick.ensures.first in
     let at_is = uv_written c.args.rail.now c.args.field c.write_field.new.regs c.toward-pick.result.sel c.toward-pick.result.uv c.requires.selector done.reads (c.toward-pick.ensures.value c.requires.changeable) in
+    let others : IsSameBeside (Some c.args.field) c.args.regs.now c.write_field.new.regs = λ other apart. done.others other apart ∙ c.loop-at.invariant.others other apart in
     record {
       walked = walked_more c.args.board.now c.args.rail.now moves c.args.regs.now c.loop-at.regs c.write_field.new.regs (g.W.Wire.accepted c.args.wire.now) (g.W.Wire.accepted c.loop-at.wire) (g.W.Wire.accepted c.write_field.new.wire) c.loop-at.made (move g d) rest
           c.loop-at.invariant.walked (next_left g d) (rw (field_is, sel_is) done.registers) (rw (field_is, sel_is) done.told)
-          (subst (IsAllowed c.args.rail.now) at_is c.toward-pick.ensures.lawful);
+          (subst (IsAllowed c.args.rail.now) at_is c.toward-pick.ensures.lawful, subst (λ (o : Option Field). IsSameBeside o c.args.regs.now c.write_field.new.regs) (sym c.requires.selector) others);
       rest = rest_more moves c.loop-at.made (move g d) rest (next_left g d);
       lawful = c.toward-pick.ensures.lawful;
       at = at_is;
       counted = done.counted ∙ c.loop-at.invariant.counted;
+      others = others;
       chips = done.chips ∙ c.loop-at.invariant.chips;
       bound = omega (arith, c.toward-pick.ensures.nearer, c.loop-at.invariant.bound);
     }

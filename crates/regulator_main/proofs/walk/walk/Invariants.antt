@@ -1,7 +1,8 @@
-use Rattle.std.proofs.Common.{◌≡◌, ◌+◌, ◌≤◌, drop, length}
+use Rattle.std.proofs.Common.{◌≡◌, ◌+◌, ◌≤◌, Some, drop, length}
 use Rattle.std.specs.Int.{abs_diff}
 use Rattle.board.specs.Rail.{uv, IsAllowed}
 use Rattle.plain_board.specs.Moves.{moves_to}
+use Rattle.regulator_main.specs.Walk.{IsSameBeside}
 use Rattle.regulator_main.proofs.Walked.{Walked}
 use Rattle.regulator_main.proofs.walk.walk.Given as goal
 
@@ -15,6 +16,7 @@ invariant-loop-at g l =
       lawful : IsAllowed l.rail l.at;
       at : l.at ≡ uv l.rail l.regs;
       counted : g.W.Wire.faults l.wire ≡ g.W.Wire.faults l.fn.wire;
+      others : IsSameBeside (Some l.field) l.fn.regs l.regs;
       chips : length l.regs ≡ length l.fn.regs;
       bound : l.made + abs_diff l.at l.target ≤ abs_diff l.initial.at l.target;
     }

@@ -1,0 +1,11 @@
+use Rattle.std.proofs.Common.{◌∙◌}
+use Rattle.voltage_table.specs.Values.{values}
+use Rattle.board.proofs.Lists.{high-entries, high_value}
+use Rattle.board.proofs.table.list_high.Goals as goal
+
+pub returns-clause-pick : goal.returns-clause-pick
+returns-clause-pick c = c.pick_of.ensures ∙ c.selector_high.ensures ∙ high-entries (values c.args.list.now) c.args.uv
+
+pub returns-clause-value : goal.returns-clause-value
+returns-clause-value c =
+    high_value c.args.list.now c.args.uv c.pick_of.result c.laws_of.ensures.high c.laws_of.ensures.listed (c.pick_of.ensures ∙ c.selector_high.ensures)

@@ -1,0 +1,3 @@
+pub mod Ways
+pub mod Graph
+pub mod Order
