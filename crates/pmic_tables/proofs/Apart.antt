@@ -1,5 +1,5 @@
 -- Fields that a test finds apart share no bit.
-use Rattle.std.proofs.Common.{◌≡◌, ◌≢◌, ℕ, ◌+◌, ◌*◌, ◌^◌, ◌<◌, ◌≤◌, min, Bool, true, cond, ◌&&◌, eqb, List, [], ◌∷◌, bit_and, refl, sym, ap, ◌∙◌, arith, inl, inr, zero, suc, eq-eqb, subst}
+use Rattle.std.proofs.Common.{◌≡◌, ◌≢◌, ℕ, ◌*◌, ◌^◌, ◌<◌, min, Bool, true, cond, ◌&&◌, eqb, List, [], ◌∷◌, bit_and, sym, ap, ◌∙◌, arith, inl, inr, zero, suc, eq-eqb, subst}
 use Rattle.std.specs.Int.{bit_at, IsBitSet}
 use Rattle.std.specs.List.{list_all, AllPass, slice_get}
 use Rattle.std.specs.Prelude.{Some}

@@ -1,23 +1,19 @@
 -- The three chips are sound, and their fields are apart.
-use Rattle.std.proofs.Common.{◌≡◌, ℕ, true, ◌+◌, ◌<◌, ◌≤◌, List, [], ◌∷◌, map, refl, sym, subst, ◌∙◌, ap, arith, lit<, lit≤}
-use Rattle.std.specs.List.{All, AllByRecursion, flat_map, enumerate_from}
-use Rattle.std.proofs.lemmas.List.Elements.{All-from_recursion, recursion_from_All}
+use Rattle.std.proofs.Common.{◌≡◌, ℕ, true, List, [], ◌∷◌, map, refl, sym, subst, ◌∙◌, ap, arith}
+use Rattle.std.specs.List.{AllByRecursion, flat_map, enumerate_from}
+use Rattle.std.proofs.lemmas.List.Elements.{All-from_recursion}
 use Rattle.std.proofs.lemmas.List.Folds.{flat_map-map}
 use Rattle.chip_regs.specs.declared.field.Field.{Field}
 use Rattle.chip_regs.specs.Clash.{NoneClash}
-use Rattle.board.specs.declared.table.Table.{Table}
+use Rattle.linear_range.specs.Values.{values}
 use Rattle.pmic_tables.specs.declared.chip_desc.ChipDesc.{ChipDesc}
-use Rattle.pmic_tables.specs.declared.chip_desc.ChipRail.{ChipRail}
-use Rattle.pmic_tables.specs.declared.kind.Kind.{Kind}
-use Rattle.pmic_tables.specs.declared.kind.Kind.TheVariants.{Buck, Ldo}
-use Rattle.pmic_tables.specs.Sheet.{Line, Sheet, line}
-use Rattle.pmic_tables.specs.Rules.{HasRoom, desc_of}
-use Rattle.pmic_tables.specs.ChipDesc.{SeenRail, seen, rail_of, rails_of, IsDescribed}
+use Rattle.pmic_tables.specs.Sheet.{Sheet}
+use Rattle.pmic_tables.specs.ChipDesc.{SeenRail, seen, rails_of, IsDescribed}
 use Rattle.pmic_tables.specs.Sound.{fields_of, IsSoundDesc, AreSound, AreApart}
 use Rattle.pmic_tables.specs.Pm4.{pm4, core as core4, io as io4, usb as usb4}
 use Rattle.pmic_tables.specs.Pm8.{pm8, core as core8, memory as memory8, linear as linear8}
 use Rattle.pmic_tables.specs.Pm12.{pm12, core as core12, linear as linear12, various as various12}
-use Rattle.pmic_tables.proofs.Exact.{one_has, two_has, listed_has, entries_of}
+use Rattle.pmic_tables.proofs.Exact.{one_has, two_has, listed_has, entries_of, selectors_tested}
 use Rattle.pmic_tables.proofs.SoundLine.{FillsMask, IsSoundAt, lines_sound}
 use Rattle.pmic_tables.proofs.Apart.{all_apart, none_clash}
 
@@ -43,31 +39,40 @@ apart_of chip sheet desc is tested =
     subst NoneClash same (none_clash (fields_in chip sheet) tested)
 
 core4_fills : FillsMask core4 0x7f
-core4_fills = record { width = 7; some = omega arith; within = omega arith; ones = refl; has = one_has 600000 6250 127 }
+unfolding values
+core4_fills = record { width = 7; some = omega arith; within = omega arith; ones = refl; has = one_has 600000 6250 127; listed = selectors_tested core4 0x7f refl }
 
 io4_fills : FillsMask io4 0x1f
-io4_fills = record { width = 5; some = omega arith; within = omega arith; ones = refl; has = two_has 800000 50000 15 1600000 100000 16 31 refl (omega arith) }
+unfolding values
+io4_fills = record { width = 5; some = omega arith; within = omega arith; ones = refl; has = two_has 800000 50000 15 1600000 100000 16 31 refl (omega arith); listed = selectors_tested io4 0x1f refl }
 
 usb4_fills : FillsMask usb4 0x07
-usb4_fills = record { width = 3; some = omega arith; within = omega arith; ones = refl; has = listed_has (entries_of usb4) 7 refl }
+unfolding values
+usb4_fills = record { width = 3; some = omega arith; within = omega arith; ones = refl; has = listed_has (entries_of usb4) 7 refl; listed = selectors_tested usb4 0x07 refl }
 
 core8_fills : FillsMask core8 0x7f
-core8_fills = record { width = 7; some = omega arith; within = omega arith; ones = refl; has = one_has 500000 10000 127 }
+unfolding values
+core8_fills = record { width = 7; some = omega arith; within = omega arith; ones = refl; has = one_has 500000 10000 127; listed = selectors_tested core8 0x7f refl }
 
 memory8_fills : FillsMask memory8 0x3f
-memory8_fills = record { width = 6; some = omega arith; within = omega arith; ones = refl; has = one_has 800000 25000 63 }
+unfolding values
+memory8_fills = record { width = 6; some = omega arith; within = omega arith; ones = refl; has = one_has 800000 25000 63; listed = selectors_tested memory8 0x3f refl }
 
 linear8_fills : FillsMask linear8 0x1f
-linear8_fills = record { width = 5; some = omega arith; within = omega arith; ones = refl; has = one_has 900000 100000 31 }
+unfolding values
+linear8_fills = record { width = 5; some = omega arith; within = omega arith; ones = refl; has = one_has 900000 100000 31; listed = selectors_tested linear8 0x1f refl }
 
 core12_fills : FillsMask core12 0x7f
-core12_fills = record { width = 7; some = omega arith; within = omega arith; ones = refl; has = two_has 600000 12500 63 1400000 25000 64 127 refl (omega arith) }
+unfolding values
+core12_fills = record { width = 7; some = omega arith; within = omega arith; ones = refl; has = two_has 600000 12500 63 1400000 25000 64 127 refl (omega arith); listed = selectors_tested core12 0x7f refl }
 
 linear12_fills : FillsMask linear12 0x3f
-linear12_fills = record { width = 6; some = omega arith; within = omega arith; ones = refl; has = one_has 800000 50000 63 }
+unfolding values
+linear12_fills = record { width = 6; some = omega arith; within = omega arith; ones = refl; has = one_has 800000 50000 63; listed = selectors_tested linear12 0x3f refl }
 
 various12_fills : FillsMask various12 0x0f
-various12_fills = record { width = 4; some = omega arith; within = omega arith; ones = refl; has = listed_has (entries_of various12) 15 refl }
+unfolding values
+various12_fills = record { width = 4; some = omega arith; within = omega arith; ones = refl; has = listed_has (entries_of various12) 15 refl; listed = selectors_tested various12 0x0f refl }
 
 -- the lines of a sheet are sound
 abbrev SoundLines : Sheet → Type 0

@@ -1,13 +1,15 @@
 -- The selectors with a value of each kind of table.
-use Rattle.std.proofs.Common.{◌≡◌, ℕ, ◌+◌, ◌-◌, ◌*◌, ◌<◌, ◌≤◌, Bool, true, false, ◌&&◌, leb, List, [], ◌∷◌, length, refl, sym, arith, rules, inl, inr}
-use Rattle.std.specs.Prelude.{◌↔◌, Option, Some, None, IsSome, slice_get, if◌then◌else◌, nat_le}
-use Rattle.std.proofs.lemmas.Bool.Decides.{nat_tests, leb_tells}
+use Rattle.std.proofs.Common.{◌≡◌, ℕ, ◌+◌, ◌≤◌, Bool, true, leb, List, [], length, refl, arith, inl, inr}
+use Rattle.std.specs.Prelude.{◌↔◌, IsSome}
+use Rattle.std.specs.List.{All, list_all}
+use Rattle.std.proofs.lemmas.Bool.{leb-true}
+use Rattle.std.proofs.lemmas.List.Elements.{All-weaker}
+use Rattle.std.proofs.lemmas.List.Sums.{AllPass-from_list_all}
+use Rattle.std.proofs.lemmas.Bool.Decides.{nat_tests}
 use Rattle.std.proofs.lemmas.Option.{slice_get_cases}
-use Rattle.linear_range.specs.declared.linear_range.LinearRange.{LinearRange}
-use Rattle.linear_range.specs.Values.{value_in, value_of}
 use Rattle.board.specs.declared.table.Table.{Table}
 use Rattle.board.specs.declared.table.Table.TheVariants.{Ranges, List as Listed}
-use Rattle.board.specs.Table.{uv_of}
+use Rattle.board.specs.Table.{uv_of, values_of}
 use Rattle.pmic_tables.specs.Sheet.{range, one_range, two_ranges, listed}
 
 -- the selectors with a value are those up to `last`
@@ -31,3 +33,12 @@ listed_has uvs last long sel =
 abbrev pub entries_of : Table → List ℕ
 entries_of (Ranges ranges) = []
 entries_of (Listed uvs) = uvs
+
+-- the pairs of a table stand at selectors up to `last`
+abbrev pub test_selectors : Table → ℕ → Bool
+test_selectors table last = list_all (λ pair. leb pair.0 last) (values_of table)
+
+pub selectors_tested : (table : Table) (last : ℕ) → test_selectors table last ≡ true → All (λ pair. pair.0 ≤ last) (values_of table)
+selectors_tested table last tested =
+    All-weaker (λ (pair : ℕ × ℕ). leb pair.0 last ≡ true) (λ pair. pair.0 ≤ last) (λ pair. leb-true pair.0 last) (values_of table)
+    (AllPass-from_list_all (λ pair. leb pair.0 last) (values_of table) tested)

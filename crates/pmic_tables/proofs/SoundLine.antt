@@ -1,18 +1,16 @@
 -- A line of a data sheet makes a sound rail.
-use Rattle.std.proofs.Common.{◌≡◌, ℕ, ◌+◌, ◌-◌, ◌*◌, ◌/◌, ◌%◌, ◌^◌, ◌<◌, ◌≤◌, List, [], ◌∷◌, map, refl, sym, ap, ◌∙◌, arith}
+use Rattle.std.proofs.Common.{◌≡◌, ℕ, ◌+◌, ◌-◌, ◌*◌, ◌/◌, ◌%◌, ◌^◌, ◌<◌, ◌≤◌, List, [], ◌∷◌, map, refl, ap, ◌∙◌, arith}
 use Rattle.std.proofs.Math.Nat.{div-one}
 use Rattle.std.proofs.lemmas.Nat.{shl-shr}
-use Rattle.std.specs.Prelude.{◌↔◌, IsSome, IfSome, Some}
-use Rattle.std.specs.List.{AllByRecursion, enumerate_from}
+use Rattle.std.specs.List.{All, AllByRecursion, enumerate_from}
 use Rattle.std.proofs.lemmas.List.Elements.{All-from_recursion}
-use Rattle.chip_regs.specs.declared.field.Field.{Field}
-use Rattle.chip_regs.specs.Field.{IsField, FitsField, greatest_of}
+use Rattle.chip_regs.specs.Field.{greatest_of}
 use Rattle.board.specs.declared.table.Table.{Table}
-use Rattle.board.specs.Table.{uv_of}
+use Rattle.board.specs.Table.{values_of}
 use Rattle.pmic_tables.specs.declared.kind.Kind.{Kind}
 use Rattle.pmic_tables.specs.declared.kind.Kind.TheVariants.{Buck, Ldo}
 use Rattle.pmic_tables.specs.Sheet.{Line, line}
-use Rattle.pmic_tables.specs.Rules.{field, bit, modes_of, HasRoom, desc_of}
+use Rattle.pmic_tables.specs.Rules.{field, bit, HasRoom, desc_of}
 use Rattle.pmic_tables.specs.ChipDesc.{rail_of}
 use Rattle.pmic_tables.specs.Sound.{fields_of, IsIn, HoldsSelectors, IsSoundDesc}
 use Rattle.pmic_tables.proofs.Exact.{HasSelectors}
@@ -30,9 +28,6 @@ modes_in chip k few = (refl, record { width = 2; some_bit = omega arith; within 
 greatest-bit : (chip first k : ℕ) → greatest_of (bit chip first k) ≡ 1
 greatest-bit chip first k = ap (λ mask. mask / 2 ^ (k % 8)) (omega arith) ∙ shl-shr 1 (k % 8)
 
-low_holds : (table : Table) (chip reg mask : ℕ) → HasSelectors table mask → HoldsSelectors table (field chip reg mask 0)
-low_holds table chip reg mask has sel = rw div-one (has sel)
-
 -- the table has a value for each pattern of a mask, which is a run of ones from bit 0 on
 pub record FillsMask (table : Table) (mask : ℕ) : Type 0 where
   pub width : ℕ
@@ -40,6 +35,13 @@ pub record FillsMask (table : Table) (mask : ℕ) : Type 0 where
   pub within : width ≤ 8
   pub ones : mask ≡ 2 ^ width - 1
   pub has : HasSelectors table mask
+  pub listed : All (λ pair. pair.0 ≤ mask) (values_of table)
+
+low_holds : (table : Table) (chip reg mask : ℕ) → FillsMask table mask → HoldsSelectors table (field chip reg mask 0)
+low_holds table chip reg mask fills = record {
+  same = λ n. rw div-one (fills.has n);
+  listed = rw div-one fills.listed;
+}
 
 mask_in : (table : Table) (mask chip reg : ℕ) → FillsMask table mask → IsIn chip (field chip reg mask 0)
 mask_in table mask chip reg fills = rw fills.ones (low_in chip reg fills.width fills.some fills.within)
@@ -58,8 +60,8 @@ line_sound chip sleep k node supply table register mask (Buck ramp) room fills =
               (modes_in chip k room, (bit_in chip sleep k, (mask_in table mask chip (0x40 + k) fills, tt))),
             ),
           );
-      selector = low_holds table chip register mask fills.has;
-      suspend_selector = low_holds table chip (0x40 + k) mask fills.has;
+      selector = low_holds table chip register mask fills;
+      suspend_selector = low_holds table chip (0x40 + k) mask fills;
       enable = greatest-bit chip 0x20 k;
       suspend_enable = greatest-bit chip sleep k;
       modes = shl-shr 3 (2 * k);
@@ -75,8 +77,8 @@ line_sound chip sleep k node supply table register mask (Ldo dropout) room fills
               (bit_in chip sleep k, (mask_in table mask chip (0x40 + k) fills, tt)),
             ),
           );
-      selector = low_holds table chip register mask fills.has;
-      suspend_selector = low_holds table chip (0x40 + k) mask fills.has;
+      selector = low_holds table chip register mask fills;
+      suspend_selector = low_holds table chip (0x40 + k) mask fills;
       enable = greatest-bit chip 0x20 k;
       suspend_enable = greatest-bit chip sleep k;
       modes = tt;

@@ -1,14 +1,13 @@
 -- What holds of every chip, whichever place it has on a board.
-use Rattle.std.specs.Prelude.{ℕ, ◌≡◌, ◌≤◌, ◌↔◌, List, [], ◌∷◌, Option, IfSome, IsSome}
+use Rattle.std.specs.Prelude.{ℕ, ◌≡◌, ◌↔◌, List, [], ◌∷◌, IfSome, IsSome}
 use Rattle.std.specs.List.{All, filter_map, flat_map}
 use Rattle.chip_regs.specs.declared.field.Field.{Field}
 use Rattle.chip_regs.specs.Field.{IsField, FitsField, greatest_of}
 use Rattle.chip_regs.specs.Clash.{NoneClash}
 use Rattle.board.specs.declared.desc.Desc.{Desc}
 use Rattle.board.specs.declared.table.Table.{Table}
-use Rattle.board.specs.Table.{uv_of}
+use Rattle.board.specs.Table.{uv_of, values_of}
 use Rattle.pmic_tables.specs.declared.chip_desc.ChipDesc.{ChipDesc}
-use Rattle.pmic_tables.specs.declared.chip_desc.ChipRail.{ChipRail}
 
 -- the fields of a rail
 abbrev pub fields_of : Desc → List Field
@@ -20,8 +19,9 @@ abbrev pub IsIn : ℕ → Field → Type 0
 IsIn chip field = (field.chip ≡ chip) × IsField field
 
 -- the numbers that the field can hold are the selectors with a value
-abbrev pub HoldsSelectors : Table → Field → Type 0
-HoldsSelectors table field = (sel : ℕ) → FitsField field sel ↔ IsSome (uv_of table sel)
+pub record HoldsSelectors (table : Table) (field : Field) : Type 0 where
+  pub same : (n : ℕ) → FitsField field n ↔ IsSome (uv_of table n)
+  pub listed : All (λ pair. FitsField field pair.0) (values_of table)
 
 -- the rail's fields lie in its chip, each as wide as what it holds: a selector, one bit, or one of four modes
 pub record IsSoundDesc (chip : ℕ) (desc : Desc) : Type 0 where

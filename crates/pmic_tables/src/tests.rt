@@ -83,11 +83,11 @@ fn edges_of_the_tables(rt: HostRuntime) -> Result<(), Fail> {
         let chip = known(&rt, rt.alloc(), name)?;
         let rail = chip.rails.get(place).expect(&rt, "a rail");
         let end = u16::from(last);
-        assert_eq!(rt; rail.node.as_str(), node);
-        assert_eq!(rt; rail.supply.as_str(), supply);
-        assert_eq!(rt; rail.desc.table.value(0), Some(first_uv), "{node}");
-        assert_eq!(rt; rail.desc.table.value(end), Some(last_uv), "{node}");
-        assert_eq!(rt; rail.desc.table.value(end + 1), None, "{node}");
+        assert!(rt; rail.node.as_str() == node, "node of {place}");
+        assert!(rt; rail.supply.as_str() == supply, "supply of {place}");
+        assert_eq!(rt; rail.desc.table.value(0), Some(first_uv));
+        assert_eq!(rt; rail.desc.table.value(end), Some(last_uv), "{place}");
+        assert_eq!(rt; rail.desc.table.value(end + 1), None);
     }
     Ok(())
 }

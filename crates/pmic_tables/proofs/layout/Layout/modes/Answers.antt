@@ -1,6 +1,5 @@
-use Rattle.std.proofs.Common.{◌≡◌, ℕ, ◌+◌, ◌*◌, ◌%◌, ◌^◌, ◌<◌, ◌≤◌, arith, refl}
+use Rattle.std.proofs.Common.{◌≡◌, ℕ, ◌*◌, ◌%◌, ◌^◌, ◌<◌, arith, refl}
 use Rattle.std.proofs.lemmas.Nat.{shl_whole}
-use Rattle.pmic_tables.specs.Rules.{HasRoom, modes_of}
 use Rattle.pmic_tables.proofs.layout.Layout.modes.Goals as goal
 
 -- the two bits of one of four rails stay within the register
