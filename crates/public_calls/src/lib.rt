@@ -3,6 +3,8 @@
 #![tactic(auto)]
 
 #[cfg(test)]
+mod chips;
+#[cfg(test)]
 mod lines;
 #[cfg(test)]
 mod lists;

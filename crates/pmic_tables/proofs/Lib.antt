@@ -1,0 +1,4 @@
+pub mod Exact
+pub mod SoundLine
+pub mod Apart
+pub mod Chips

@@ -1,0 +1,20 @@
+use Rattle.pmic_tables.proofs.Chips.{pm4_sound, pm8_sound, pm12_sound, pm4_apart, pm8_apart, pm12_apart}
+use Rattle.pmic_tables.proofs.named.chip.Goals as goal
+
+pub returns-in_ok-describe-clause-sound : goal.returns-in_ok-describe-clause-sound
+returns-in_ok-describe-clause-sound c = pm4_sound c.args.number c.in_ok-describe.field-0 c.in_ok-describe.ensures
+
+pub returns-in_ok-describe-clause-apart : goal.returns-in_ok-describe-clause-apart
+returns-in_ok-describe-clause-apart c = pm4_apart c.args.number c.in_ok-describe.field-0 c.in_ok-describe.ensures
+
+pub returns-in_ok-describe-2-clause-sound : goal.returns-in_ok-describe-2-clause-sound
+returns-in_ok-describe-2-clause-sound c = pm8_sound c.args.number c.in_ok-describe-2.field-0 c.in_ok-describe-2.ensures
+
+pub returns-in_ok-describe-2-clause-apart : goal.returns-in_ok-describe-2-clause-apart
+returns-in_ok-describe-2-clause-apart c = pm8_apart c.args.number c.in_ok-describe-2.field-0 c.in_ok-describe-2.ensures
+
+pub returns-in_ok-describe-3-clause-sound : goal.returns-in_ok-describe-3-clause-sound
+returns-in_ok-describe-3-clause-sound c = pm12_sound c.args.number c.in_ok-describe-3.field-0 c.in_ok-describe-3.ensures
+
+pub returns-in_ok-describe-3-clause-apart : goal.returns-in_ok-describe-3-clause-apart
+returns-in_ok-describe-3-clause-apart c = pm12_apart c.args.number c.in_ok-describe-3.field-0 c.in_ok-describe-3.ensures
