@@ -36,7 +36,7 @@ pub record HasWidths (rail : Rail) : Type 0 where
   pub suspend_enable : IfSome rail.desc.suspend_enable (HasBits 1)
   pub modes : IfSome rail.desc.modes (HasBits 2)
 
--- what the table says of a value fits the field: a selector that has the value
+-- some selector that fits the field has the value
 pub record HasSelector (rail : Rail) (field : Field) (uv : ℕ) : Type 0 where
   pub sel : ℕ
   pub value : uv_of rail.desc.table sel ≡ Some uv

@@ -42,7 +42,7 @@ placed_by rail s e m se ss SuspendEnable = rw se tt
 placed_by rail s e m se ss SuspendSelector = rw ss tt
 
 pub returns : goal.returns
-returns g c = λ none.
+returns c = λ none.
     let still : c.is_some.result ≡ false = c.is_some.ensures ∙ rw none refl in
     record {
       changeable = still ∙ rw none refl;
