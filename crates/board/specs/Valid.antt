@@ -1,5 +1,5 @@
 -- Which boards are sound in themselves.
-use Rattle.std.specs.Prelude.{ℕ, Bool, ◌≡◌, ◌≢◌, ◌-◌, ◌^◌, ◌<◌, ◌≤◌, ◌⊎◌, ◌&&◌, not, ◌==◌, nat_lt, true, false, List, [], map, length, slice_get, All, AllPairs, Contains, Option, None, Some, IfSome, IsSome}
+use Rattle.std.specs.Prelude.{ℕ, Bool, ◌≡◌, ◌≢◌, ◌-◌, ◌^◌, ◌<◌, ◌≤◌, ◌⊎◌, ◌&&◌, not, ◌==◌, nat_lt, true, false, [], map, length, slice_get, All, AllPairs, Option, None, Some, IfSome, IsSome}
 use Rattle.std.specs.Option.{option_map, option_and_then}
 use Rattle.chip_regs.specs.declared.field.Field.{Field}
 use Rattle.chip_regs.specs.Field.{IsField, FitsField, SharesBit, greatest_of}
@@ -9,7 +9,6 @@ use Rattle.board_graph.specs.Order.{IsOrder}
 use Rattle.board.specs.declared.board.Board.{Board}
 use Rattle.board.specs.declared.part.Part.{Part}
 use Rattle.board.specs.declared.rail.Rail.{Rail}
-use Rattle.board.specs.declared.rail_id.RailId.{RailId}
 use Rattle.board.specs.declared.sleep.Sleep.{Sleep}
 use Rattle.board.specs.Table.{uv_of, values_of}
 use Rattle.board.specs.Rail.{allowed, part_field, counts_loads}
