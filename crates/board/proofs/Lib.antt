@@ -1,3 +1,4 @@
+pub mod Best
 pub mod Choices
 pub mod Lists
 pub mod Lone

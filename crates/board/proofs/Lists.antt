@@ -1,5 +1,5 @@
 -- The picks of a list, as those of any table.
-use Rattle.std.proofs.Common.{◌≡◌, ◌<◌, subst, ℕ, cond, leb, List, [], ◌∷◌, Option, Some, None, refl, sym, ap, ◌∙◌, filter}
+use Rattle.std.proofs.Common.{◌≡◌, ◌<◌, subst, ℕ, leb, List, [], ◌∷◌, Option, Some, None, refl, sym, ap, ◌∙◌, filter}
 use Rattle.std.specs.Prelude.{All, MatchOption, IfSome}
 use Rattle.std.specs.Option.{option_map}
 use Rattle.linear_range.specs.declared.pick.Pick.{Pick}

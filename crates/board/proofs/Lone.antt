@@ -1,21 +1,21 @@
 -- A board of one rail that is sound is valid.
-use Rattle.std.proofs.Common.{◌≡◌, ◌≢◌, ◌⊎◌, inl, inr, ℕ, zero, suc, ◌<◌, ◌≤◌, Bool, true, false, ◌&&◌, List, [], ◌∷◌, Option, Some, None, refl, sym, ap, subst, ◌∙◌, arith, length, take}
+use Rattle.std.proofs.Common.{◌≡◌, ◌≢◌, ◌⊎◌, inl, inr, ℕ, zero, suc, ◌<◌, Bool, true, false, ◌&&◌, List, [], ◌∷◌, Some, refl, sym, ap, subst, ◌∙◌, arith, length, take}
 use Rattle.std.specs.Prelude.{All, Contains, slice_get, IfSome, flat_map}
 use Rattle.std.specs.Option.{option_and_then}
 use Rattle.std.proofs.lemmas.List.Elements.{All-nil, All-cons}
 use Rattle.chip_regs.specs.declared.field.Field.{Field}
 use Rattle.chip_regs.specs.Field.{SharesBit}
 use Rattle.board_graph.specs.declared.graph.Graph.{Graph}
-use Rattle.board_graph.specs.Ways.{Leads, IsWay}
+use Rattle.board_graph.specs.Ways.{IsWay}
 use Rattle.board_graph.specs.Graph.{Supplies, IsAbove, IsIn, AreCoupled, members}
-use Rattle.board_graph.specs.Order.{IsReady, IsNext, IsOrder}
+use Rattle.board_graph.specs.Order.{IsNext, IsOrder}
 use Rattle.board.specs.declared.board.Board.{Board}
 use Rattle.board.specs.declared.part.Part.{Part}
 use Rattle.board.specs.declared.rail.Rail.{Rail}
 use Rattle.board.specs.Rail.{part_field}
-use Rattle.board.specs.Gaps.{HasNarrowGaps, IsSpreadOf}
+use Rattle.board.specs.Gaps.{HasNarrowGaps}
 use Rattle.board.specs.Lone.{lone_graph, IsLone}
-use Rattle.board.specs.Valid.{IsSoundRail, IsGraphOf, IsPrinted, HasNames, IsValid, supply_of, is_linked}
+use Rattle.board.specs.Valid.{IsSoundRail, IsGraphOf, IsPrinted, HasNames, IsValid}
 
 none_supplies : (upper lower : ℕ) → Supplies lone_graph upper lower → ⊥
 none_supplies upper zero is = cc

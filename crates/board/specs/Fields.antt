@@ -1,5 +1,5 @@
 -- The rails of a board by their numbers, and their register fields.
-use Rattle.std.specs.Prelude.{ℕ, List, [], Option, None, Some, map, slice_get}
+use Rattle.std.specs.Prelude.{ℕ, ◌≤◌, List, [], Option, None, Some, map, slice_get, All, Contains}
 use Rattle.std.specs.Option.{option_and_then}
 use Rattle.chip_regs.specs.declared.field.Field.{Field}
 use Rattle.board.specs.declared.board.Board.{Board}
@@ -23,3 +23,15 @@ choices_at board r = choices_of (slice_get board.rails r)
 -- the values that a rail of the board may stand at, in µV
 abbrev pub allowed_at : Board → ℕ → List ℕ
 allowed_at board r = map (λ pair. pair.1) (choices_at board r)
+
+-- the least value of a list that isn't below u
+pub record IsLeastAbove (values : List ℕ) (u least : ℕ) : Type 0 where
+  pub among : Contains values least
+  pub not_below : u ≤ least
+  pub no_lesser : All (λ v. u ≤ v → least ≤ v) values
+
+-- the greatest value of a list that isn't above u
+pub record IsGreatestBelow (values : List ℕ) (u greatest : ℕ) : Type 0 where
+  pub among : Contains values greatest
+  pub not_above : greatest ≤ u
+  pub no_greater : All (λ v. v ≤ u → v ≤ greatest) values

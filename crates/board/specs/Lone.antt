@@ -1,5 +1,5 @@
 -- A board of one rail, which is the least that there is.
-use Rattle.std.specs.Prelude.{◌≡◌, ◌≢◌, false, [], ◌∷◌, length, All, Some, None}
+use Rattle.std.specs.Prelude.{◌≡◌, ◌≢◌, false, [], ◌∷◌, All, Some, None}
 use Rattle.chip_regs.specs.declared.field.Field.{Field}
 use Rattle.chip_regs.specs.Field.{SharesBit}
 use Rattle.board_graph.specs.declared.graph.Graph.{Graph}

@@ -1,5 +1,5 @@
 -- Which boards are sound in themselves.
-use Rattle.std.specs.Prelude.{ℕ, Bool, ◌≡◌, ◌≢◌, ◌-◌, ◌^◌, ◌<◌, ◌≤◌, ◌⊎◌, ◌&&◌, not, ◌==◌, nat_lt, true, false, List, [], map, length, slice_get, All, AllPairs, Contains, Option, None, Some, IfSome, IsSome}
+use Rattle.std.specs.Prelude.{ℕ, Bool, ◌≡◌, ◌≢◌, ◌-◌, ◌^◌, ◌<◌, ◌≤◌, ◌⊎◌, ◌&&◌, not, ◌==◌, nat_lt, true, false, [], map, length, slice_get, All, AllPairs, Option, None, Some, IfSome, IsSome}
 use Rattle.std.specs.Option.{option_map, option_and_then}
 use Rattle.chip_regs.specs.declared.field.Field.{Field}
 use Rattle.chip_regs.specs.Field.{IsField, FitsField, SharesBit, greatest_of}
@@ -9,7 +9,6 @@ use Rattle.board_graph.specs.Order.{IsOrder}
 use Rattle.board.specs.declared.board.Board.{Board}
 use Rattle.board.specs.declared.part.Part.{Part}
 use Rattle.board.specs.declared.rail.Rail.{Rail}
-use Rattle.board.specs.declared.rail_id.RailId.{RailId}
 use Rattle.board.specs.declared.sleep.Sleep.{Sleep}
 use Rattle.board.specs.Table.{uv_of, values_of}
 use Rattle.board.specs.Rail.{allowed, part_field, counts_loads}
@@ -36,7 +35,7 @@ pub record HasWidths (rail : Rail) : Type 0 where
   pub suspend_enable : IfSome rail.desc.suspend_enable (HasBits 1)
   pub modes : IfSome rail.desc.modes (HasBits 2)
 
--- what the table says of a value fits the field: a selector that has the value
+-- some selector that fits the field has the value
 pub record HasSelector (rail : Rail) (field : Field) (uv : ℕ) : Type 0 where
   pub sel : ℕ
   pub value : uv_of rail.desc.table sel ≡ Some uv

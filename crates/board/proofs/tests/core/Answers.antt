@@ -1,4 +1,4 @@
-use Rattle.std.proofs.Common.{◌≡◌, ℕ, ◌≤◌, true, false, List, [], ◌∷◌, Option, Some, None, refl, sym, ap, ◌∙◌, arith, leb, rules}
+use Rattle.std.proofs.Common.{◌≡◌, ℕ, ◌≤◌, true, false, List, [], ◌∷◌, Some, None, refl, ap, ◌∙◌, arith, leb, rules}
 use Rattle.std.specs.Prelude.{All, IfSome, IsSome}
 use Rattle.std.specs.List.{list_all}
 use Rattle.std.proofs.lemmas.Bool.{leb-true}
@@ -12,7 +12,7 @@ use Rattle.board.specs.declared.rail.Rail.{Rail}
 use Rattle.board.specs.declared.part.Part.{Part}
 use Rattle.board.specs.declared.part.Part.TheVariants.{Selector, Enable, ModePart, SuspendEnable, SuspendSelector}
 use Rattle.board.specs.Rail.{part_field}
-use Rattle.board.specs.Valid.{IsPlaced, is_span}
+use Rattle.board.specs.Valid.{IsPlaced}
 use Rattle.board.proofs.tests.core.Goals as goal
 
 abbrev ranges : List LinearRange
@@ -42,7 +42,7 @@ placed_by rail s e m se ss SuspendEnable = rw se tt
 placed_by rail s e m se ss SuspendSelector = rw ss tt
 
 pub returns : goal.returns
-returns g c = λ none.
+returns c = λ none.
     let still : c.is_some.result ≡ false = c.is_some.ensures ∙ rw none refl in
     record {
       changeable = still ∙ rw none refl;
