@@ -3,7 +3,7 @@ use Rattle.std.specs.Prelude.{All}
 use Rattle.std.proofs.lemmas.List.Elements.{All-nil, All-cons}
 use Rattle.board.specs.declared.rail.Rail.{Rail}
 use Rattle.board.specs.Rail.{uv, IsAllowed}
-use Rattle.plain_board.proofs.tests.one_rail.Goals as goal
+use Rattle.public_calls.proofs.lines.one_rail.Goals as goal
 
 pub lone_is_valid-requires : goal.lone_is_valid-requires
 lone_is_valid-requires g c =
