@@ -6,6 +6,7 @@ use Rattle.pmic_tables.specs.declared.kind.Kind.{Kind}
 use Rattle.pmic_tables.specs.declared.kind.Kind.TheVariants.{Buck, Ldo}
 use Rattle.pmic_tables.specs.Sheet.{Line}
 
+-- a field of a chip: its register, the bits of the field, and the place of the lowest of them
 abbrev pub field : ℕ → ℕ → ℕ → ℕ → Field
 field chip reg mask shift = record { chip = chip; reg = reg; mask = mask; shift = shift }
 
@@ -18,27 +19,27 @@ abbrev pub modes_of : ℕ → ℕ → Kind → Option Field
 modes_of chip k (Buck ramp) = Some (field chip 0x30 (3 * 2 ^ (2 * k)) (2 * k))
 modes_of chip k (Ldo dropout) = None
 
--- the register of the modes has room for four bucks
+-- the register of the modes has room for the first four rails
 abbrev pub HasRoom : ℕ → Kind → Type 0
 HasRoom k (Buck ramp) = k < 4
 HasRoom k (Ldo dropout) = k < 16
 
--- the greatest loads of a buck in µA, in the order fast, normal, idle, standby
+-- the greatest load of each mode in µA, in the order fast, normal, idle, standby; an ldo has no modes, and 0
 abbrev pub greatest_of : Kind → List ℕ
 greatest_of (Buck ramp) = 3000000 ∷ 1000000 ∷ 50000 ∷ 5000 ∷ []
 greatest_of (Ldo dropout) = 0 ∷ 0 ∷ 0 ∷ 0 ∷ []
 
--- µV
+-- the dropout in µV; a buck has none
 abbrev pub dropout_of : Kind → ℕ
 dropout_of (Buck ramp) = 0
 dropout_of (Ldo dropout) = dropout
 
--- µV/µs
+-- the ramp in µV/µs, which is 0 for an ldo
 abbrev pub ramp_of : Kind → ℕ
 ramp_of (Buck ramp) = ramp
 ramp_of (Ldo dropout) = 0
 
--- µs
+-- how long the rail takes to come up, in µs
 abbrev pub enable_time_of : Kind → ℕ
 enable_time_of (Buck ramp) = 100
 enable_time_of (Ldo dropout) = 50

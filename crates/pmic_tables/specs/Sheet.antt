@@ -30,6 +30,7 @@ pub record Line : Type 0 where
   pub mask : ℕ
   pub kind : Kind
 
+-- a line as it is written in a data sheet
 abbrev pub line : List ℕ → List ℕ → Table → ℕ → ℕ → Kind → Line
 line node supply table register mask kind =
     record { node = node; supply = supply; table = table; register = register; mask = mask; kind = kind }

@@ -21,7 +21,7 @@ impl Kind {
         }
     }
 
-    /// In µV.
+    /// In µV; 0 for a switching regulator.
     pub(crate) fn dropout(self) -> u32
         ensures { result ≡ dropout_of self }
     {
@@ -31,7 +31,7 @@ impl Kind {
         }
     }
 
-    /// In µV/µs; a linear regulator follows at once.
+    /// In µV/µs; 0 for a linear regulator.
     pub(crate) fn ramp(self) -> u32
         ensures { result ≡ ramp_of self }
     {

@@ -1,4 +1,4 @@
-ghost use Rattle.std.specs.Prelude.{◌≡◌, ◌↔◌, IfOk, IfSome, IsNone, IsSomeAnd};
+ghost use Rattle.std.specs.Prelude.{◌↔◌, IfOk, IfSome, IsNone, IsSomeAnd};
 ghost use Rattle.pmic_tables.specs.Named.{sheet_named};
 ghost use Rattle.pmic_tables.specs.ChipDesc.{IsDescribed};
 ghost use Rattle.pmic_tables.specs.Sound.{AreSound, AreApart};
