@@ -1,6 +1,6 @@
 //! The chips' rails, with values worked out by hand.
-use pmic_tables::{ChipDesc, chip};
 use chip_regs::{Field, disjoint};
+use pmic_tables::{ChipDesc, chip};
 use std::alloc::{AllocError, Global};
 use std::process::Abort;
 use std::test::Fail;

@@ -5,6 +5,8 @@
 #[cfg(test)]
 mod chips;
 #[cfg(test)]
+mod items;
+#[cfg(test)]
 mod lines;
 #[cfg(test)]
 mod lists;

@@ -9,7 +9,6 @@ ghost use Rattle.plain_board.specs.Inv.{Inv};
 ghost use Rattle.plain_board.specs.History.{NamesRail};
 ghost use Rattle.plain_board.specs.Text.{HasRails};
 
-use plain_board::{Answer, Call, HandleRow, Plain, Row, summary};
 use bitflags::Flags;
 use board::laws::lone_is_valid;
 use board::{Board, Constraints, Desc, Handle, Name, Rail, RailId, Table};
@@ -17,6 +16,7 @@ use board_graph::Graph;
 use chip_regs::{Field, Regs};
 use item_list::Items;
 use load_modes::Modes;
+use plain_board::{Answer, Call, HandleRow, Plain, Row, summary};
 use ramp_delay::Times;
 use std::alloc::{AllocError, Global};
 use std::process::Abort;

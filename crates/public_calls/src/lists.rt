@@ -1,6 +1,6 @@
 //! Picks and refusals whose expected values are worked out by hand.
-use voltage_table::{ListFault, ListPick, VoltList, laws_of};
 use std::test::Fail;
+use voltage_table::{ListFault, ListPick, VoltList, laws_of};
 
 #[test]
 fn repeated_values(rt: HostRuntime) -> Result<(), Fail> {

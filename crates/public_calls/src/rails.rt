@@ -2,8 +2,8 @@
 ghost use Rattle.std.specs.Prelude.{◌≡◌, None, length, IfOk};
 ghost use Rattle.board.specs.Valid.{IsSoundRail};
 
-use board::{Board, Constraints, Desc, Name, Part, Rail, RailId, Table};
 use bitflags::Flags;
+use board::{Board, Constraints, Desc, Name, Part, Rail, RailId, Table};
 use board_graph::Graph;
 use chip_regs::{Field, Regs};
 use item_list::Items;

@@ -155,7 +155,8 @@ fn limits(rt: HostRuntime) -> Result<(), Fail> {
     let mut sink = MemSink::new(alloc, 1_000_000, Vec::new(alloc))?;
     let status = solo(alloc, text.as_str(), &mut sink, &mut NullLab)?;
     assert_eq!(rt; status, Status::Done);
-    let end = b"1 4096 set a 800000 4294967295 -> ok 800000 0\nrail core off 800000 normal use 0 enables 0\ndone 1 4096\n";
+    let end =
+        b"1 4096 set a 800000 4294967295 -> ok 800000 0\nrail core off 800000 normal use 0 enables 0\ndone 1 4096\n";
     assert!(rt; sink.bytes().ends_with(end.as_slice()));
     Ok(())
 }
