@@ -1,0 +1,4 @@
+//! Reads the tokens of a devicetree text into its tree, or names the first fault.
+#![tactic(auto)]
+
+mod step;
