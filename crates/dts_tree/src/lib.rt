@@ -1,4 +1,5 @@
 //! Reads the tokens of a devicetree text into its tree, or names the first fault.
 #![tactic(auto)]
 
+mod nodes;
 mod step;
