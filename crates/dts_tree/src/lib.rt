@@ -2,4 +2,5 @@
 #![tactic(auto)]
 
 mod nodes;
+mod order;
 mod step;
