@@ -49,7 +49,7 @@ path_eq-child : (n : ℕ) (q : List ℕ) → pointwise nat_eq (n ∷ q) q ≡ fa
 path_eq-child n q = path_eq-ne (n ∷ q) q (λ e. omega (arith, ap length e))
 
 module _ (keys : List (ℕ × ℕ)) (paths : List (List ℕ)) (h : Paths keys paths) where
-  path_eq-numbers : (p r : ℕ) → p < length paths → r < length paths → pointwise nat_eq (get_or paths p []) (get_or paths r []) ≡ nat_eq p r
+  pub path_eq-numbers : (p r : ℕ) → p < length paths → r < length paths → pointwise nat_eq (get_or paths p []) (get_or paths r []) ≡ nat_eq p r
   path_eq-numbers p r in_p in_r =
       ⊎_elim
         (λ e. subst (λ (s : ℕ). pointwise nat_eq (get_or paths p []) (get_or paths s []) ≡ nat_eq p s) e (path_eq-refl (get_or paths p []) ∙ sym (eq-eqb p p refl)))

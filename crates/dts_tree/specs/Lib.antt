@@ -1,3 +1,5 @@
 pub mod Numbered
 pub mod Order
 pub mod Path
+pub mod Reader
+pub mod Reading

@@ -1,4 +1,5 @@
-ghost use Rattle.std.specs.Prelude.{◌≡◌, ◌<◌, ◌≤◌, ◌+◌, ◌-◌, ◌^◌, ◌∷◌, [], length, IfOk, OnErr, OnOk, slice_index_or, nat_eq};
+ghost use Rattle.std.specs.Prelude.{◌≡◌, ℕ, ◌<◌, ◌≤◌, ◌+◌, ◌-◌, ◌^◌, ◌∷◌, [], length, IfOk, OnErr, OnOk, slice_index_or, nat_eq};
+ghost use Rattle.std.specs.Cmp.Lexicographic.{pointwise};
 ghost use Rattle.dts_tree.specs.Path.{number_of, with_path};
 
 use indexmap::IndexSet;
@@ -61,6 +62,7 @@ impl Nodes {
         requires shallow { length (slice_index_or self.old parent []) < 2 ^ 32 - 1 }
         ensures ok { let path = name ∷ slice_index_or self.old parent [] in OnOk result (self.new ≡ with_path nat_eq self.old path) }
         ensures number { let path = name ∷ slice_index_or self.old parent [] in IfOk result (λ k. k ≡ number_of nat_eq self.old path) }
+        ensures apart { OnOk result ((j k : ℕ) → j < length self.new → k < length self.new → pointwise nat_eq (slice_index_or self.new j []) (slice_index_or self.new k []) ≡ nat_eq j k) }
         ensures err { OnErr result (self.new ≡ self.old) }
     {
         let depth = self.depths[parent as usize] + 1;

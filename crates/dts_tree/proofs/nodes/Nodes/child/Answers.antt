@@ -1,9 +1,10 @@
-use Rattle.std.proofs.Common.{◌≡◌, ◌∷◌, ◌++◌, [], ◌<◌, ap, sym, ◌∙◌, length, arith, false, ℕ, List}
+use Rattle.std.proofs.Common.{◌≡◌, ◌∷◌, ◌++◌, [], ◌<◌, ap, sym, ◌∙◌, length, arith, false, ℕ, List, subst, nat_eq, get_or}
+use Rattle.std.specs.Cmp.Lexicographic.{pointwise}
 use Rattle.std.proofs.lemmas.Bool.{cond-false}
 use Rattle.std.specs.List.{list_any, position}
 use Rattle.dts_tree.specs.Path.{paths_of}
 use Rattle.dts_tree.specs.Numbered.{same_key}
-use Rattle.dts_tree.proofs.NumberedLemmas.{child_known, child_new, numbered_new, depth_at, depths_long, paths_of-push}
+use Rattle.dts_tree.proofs.NumberedLemmas.{child_known, child_new, numbered_new, path_eq-numbers, depth_at, depths_long, paths_of-push}
 use Rattle.dts_tree.proofs.nodes.Nodes.child.Goals as goal
 
 
@@ -45,3 +46,12 @@ returns-clause-number c =
     let none : list_any (same_key k) keys ≡ false = sym c.in_default.ensures.found in
     let inside : c.args.parent < length (paths_of keys) = rw (c.self.view_is) c.requires.parent in
     rw (← c.self.view_is) (c.len-number.ensures ∙ (c.self.inside.depths.ok.0 ∙ depths_long keys c.self.inside.depths.items c.self.invariant ∙ (child_new keys (paths_of keys) c.args.parent c.args.name c.self.invariant.paths inside none).1))
+
+pub returns-in-Some-clause-apart : goal.returns-in-Some-clause-apart
+returns-in-Some-clause-apart c =
+    let keys = c.self.inside.keys.keys in
+    subst (λ (paths : List (List ℕ)). (j k : ℕ) → j < length paths → k < length paths → pointwise nat_eq (get_or paths j []) (get_or paths k []) ≡ nat_eq j k) c.self.view_is (path_eq-numbers keys (paths_of keys) c.self.invariant.paths)
+
+pub returns-clause-apart : goal.returns-clause-apart
+returns-clause-apart c =
+    path_eq-numbers c.insert.new.self.keys (paths_of c.insert.new.self.keys) (invariant_of-self-in_default-insert c).paths
