@@ -1,3 +1,4 @@
 pub mod NumberedLemmas
 pub mod OrderLemmas
 pub mod ReaderLemmas
+pub mod RenameLemmas

@@ -3,3 +3,4 @@ pub mod Order
 pub mod Path
 pub mod Reader
 pub mod Reading
+pub mod Rename
