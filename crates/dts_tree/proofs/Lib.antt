@@ -2,3 +2,4 @@ pub mod NumberedLemmas
 pub mod OrderLemmas
 pub mod ReaderLemmas
 pub mod RenameLemmas
+pub mod ShapeLemmas

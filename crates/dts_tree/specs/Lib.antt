@@ -4,3 +4,4 @@ pub mod Path
 pub mod Reader
 pub mod Reading
 pub mod Rename
+pub mod Shape

@@ -55,6 +55,19 @@ impl Nodes {
         self.depths[node as usize]
     }
 
+    /// The number of a node's parent, and the node's name.
+    pub(crate) fn key(&self, node: u32) -> (u32, u32)
+        requires child { 0 < node }
+        requires inside { node < length self.now }
+        ensures path { slice_index_or self.now node [] ≡ result.1 ∷ slice_index_or self.now result.0 [] }
+        ensures earlier { result.0 < node }
+    {
+        match self.keys.get_index(node as usize - 1) {
+            Some(key) => *key,
+            None => (0, 0),
+        }
+    }
+
     /// The number of the child of this name, which comes last where it wasn't there.
     pub(crate) fn child(&mut self, parent: u32, name: u32) -> Result<u32, AllocError>
         requires parent { parent < length self.old }
