@@ -9,15 +9,14 @@ use Rattle.std.proofs.lemmas.List.Folds.{flat_map-map}
 use Rattle.std.proofs.lemmas.List.FromFn.{length-map-range_with_len, get_or-map-range_with_len}
 use Rattle.dts_tree.specs.Order.{children_from, below, in_tree_order}
 use Rattle.dts_tree.specs.Shape.{is_child_of, children_of, tree_below, tree_order_of, ParentsOf}
+use Rattle.dts_tree.proofs.RenameLemmas.{map-cond}
 use Rattle.dts_tree.proofs.OrderLemmas.{block, block-step, filter-none, filter-passes, filter-fails, flat_map-children, IsEarlier}
 
 filter-map : {X Y : Type 0} (p : Y → Bool) (g : X → Y) (xs : List X) → filter p (map g xs) ≡ map g (filter (λ x. p (g x)) xs)
 filter-map p g [] = refl
 filter-map p g (x ∷ xs) =
-    ⊎_elim
-      (λ passes. rw (passes, filter-map p g xs) refl)
-      (λ fails. rw (fails, filter-map p g xs) refl)
-      (cases_Bool (p (g x)))
+    ap (λ ys. cond (p (g x)) (g x ∷ ys) ys) (filter-map p g xs)
+    ∙ sym (map-cond (map g) (p (g x)) (x ∷ filter (λ y. p (g y)) xs) (filter (λ y. p (g y)) xs))
 
 -- two tests that agree on a range
 filter-same : (p q : ℕ → Bool) (k m : ℕ) → ((j : ℕ) → k ≤ j → j < k + m → p j ≡ q j) → filter p (range_with_len k m) ≡ filter q (range_with_len k m)
@@ -74,6 +73,16 @@ module _ (paths : List (List ℕ)) (parents : List ℕ) (h : ParentsOf paths par
         let same : length (get_or paths (get_or parents j 0) []) ≡ length (get_or paths x []) = ap (λ (k : ℕ). length (get_or paths k [])) e in
         omega (arith, long, same, deep, shallow j)))
 
+  blocks-same : (d x : ℕ) → x < length paths → length (get_or paths x []) + suc d ≡ 32 → ((j : ℕ) → j < length paths → length (get_or paths j []) + d ≡ 32 → tree_below nat_eq d paths (get_or paths j []) ≡ map (λ k. get_or paths k []) (block parents j)) → flat_map (λ j. tree_below nat_eq d paths (get_or paths j [])) (children_from parents x 1) ≡ flat_map (λ j. map (λ k. get_or paths k []) (block parents j)) (children_from parents x 1)
+  unfolding children_from
+  blocks-same d x in_x deep ih =
+      flat_map-children (λ j. tree_below nat_eq d paths (get_or paths j [])) (λ j. map (λ k. get_or paths k []) (block parents j)) (λ j. nat_eq (get_or parents j 0) x) 1 (length parents - 1)
+      (λ j low high passes.
+        let in_j : j < length paths = omega (arith, low, high, h.long) in
+        let long : length (get_or paths j []) ≡ suc (length (get_or paths (get_or parents j 0) [])) = ap length (h.child j low in_j).1 in
+        let same : length (get_or paths (get_or parents j 0) []) ≡ length (get_or paths x []) = ap (λ (k : ℕ). length (get_or paths k [])) (eqb-true (get_or parents j 0) x passes) in
+        ih j in_j (omega (arith, long, same, deep)))
+
   block-paths : (d x : ℕ) → x < length paths → length (get_or paths x []) + d ≡ 32 → tree_below nat_eq d paths (get_or paths x []) ≡ map (λ j. get_or paths j []) (block parents x)
   unfolding tree_below
   block-paths zero x in_x deep =
@@ -84,18 +93,8 @@ module _ (paths : List (List ℕ)) (parents : List ℕ) (h : ParentsOf paths par
       let cs : List ℕ = children_from parents x 1 in
       ap (λ ps. g x ∷ flat_map (tree_below nat_eq d paths) ps) (children-same x in_x)
       ∙ (ap (λ ps. g x ∷ ps) (flat_map-map (tree_below nat_eq d paths) g cs
-        ∙ (blocks-same d x in_x deep ∙ sym (map-flat_map g (block parents) cs)))
+        ∙ (blocks-same d x in_x deep (block-paths d) ∙ sym (map-flat_map g (block parents) cs)))
       ∙ sym (ap (map g) (block-step parents x is_earlier (omega (arith, in_x, h.long)))))
-
-  blocks-same : (d x : ℕ) → x < length paths → length (get_or paths x []) + suc d ≡ 32 → flat_map (λ j. tree_below nat_eq d paths (get_or paths j [])) (children_from parents x 1) ≡ flat_map (λ j. map (λ k. get_or paths k []) (block parents j)) (children_from parents x 1)
-  unfolding children_from
-  blocks-same d x in_x deep =
-      flat_map-children (λ j. tree_below nat_eq d paths (get_or paths j [])) (λ j. map (λ k. get_or paths k []) (block parents j)) (λ j. nat_eq (get_or parents j 0) x) 1 (length parents - 1)
-      (λ j low high passes.
-        let in_j : j < length paths = omega (arith, low, high, h.long) in
-        let long : length (get_or paths j []) ≡ suc (length (get_or paths (get_or parents j 0) [])) = ap length (h.child j low in_j).1 in
-        let same : length (get_or paths (get_or parents j 0) []) ≡ length (get_or paths x []) = ap (λ (k : ℕ). length (get_or paths k [])) (eqb-true (get_or parents j 0) x passes) in
-        block-paths d j in_j (omega (arith, long, same, deep)))
 
   pub order-paths : 0 < length paths → map (λ j. get_or paths j []) (in_tree_order parents) ≡ tree_order_of nat_eq paths
   unfolding block
