@@ -1,3 +1,5 @@
 pub mod Grammar
+pub mod Outline
 pub mod Rest
 pub mod Symbol
+pub mod Within

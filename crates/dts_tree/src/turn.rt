@@ -1,5 +1,6 @@
 ghost use Rattle.std.specs.Prelude.{◌≡◌, ◌≤◌, ◌<◌, ◌+◌, IfSome};
 ghost use Rattle.dts_tree.specs.Rest.{Follows, Rest};
+ghost use Rattle.dts_tree.specs.Within.{IsPlaceWithin, IsTurnWithin};
 
 use crate::place::Place;
 use crate::step::Step;
@@ -16,10 +17,11 @@ pub(crate) struct Turn {
 
 /// What the token `at` of a class leads to, or None where it can't come here.
 pub(crate) fn next(place: Place, depth: u32, symbol: Symbol, at: u32) -> Option<Turn>
+    requires behind { IsPlaceWithin at place }
     requires shallow { depth ≤ at }
     requires more { at < 4294967295 }
     ensures follows { Follows (Rest place depth) symbol at result }
-    ensures shallow { IfSome result (λ turn. turn.depth ≤ at + 1) }
+    ensures within { IfSome result (IsTurnWithin (at + 1)) }
 {
     match place {
         Place::Start => start(symbol, at),
@@ -66,7 +68,7 @@ fn told(place: Place, depth: u32, step: Step) -> Option<Turn>
 
 fn start(symbol: Symbol, at: u32) -> Option<Turn>
     ensures follows { Follows (Rest Place.Start 0) symbol at result }
-    ensures shallow { IfSome result (λ turn. turn.depth ≤ at + 1) }
+    ensures within { IfSome result (IsTurnWithin (at + 1)) }
 {
     match symbol {
         Symbol::Version => on(Place::Versioned, 0),
@@ -76,7 +78,7 @@ fn start(symbol: Symbol, at: u32) -> Option<Turn>
 
 fn versioned(symbol: Symbol, at: u32) -> Option<Turn>
     ensures follows { Follows (Rest Place.Versioned 0) symbol at result }
-    ensures shallow { IfSome result (λ turn. turn.depth ≤ at + 1) }
+    ensures within { IfSome result (IsTurnWithin (at + 1)) }
 {
     match symbol {
         Symbol::Semicolon => on(Place::Inside, 0),
@@ -87,7 +89,7 @@ fn versioned(symbol: Symbol, at: u32) -> Option<Turn>
 fn inside(depth: u32, symbol: Symbol, at: u32) -> Option<Turn>
     requires { depth ≤ at }
     ensures follows { Follows (Rest Place.Inside depth) symbol at result }
-    ensures shallow { IfSome result (λ turn. turn.depth ≤ at + 1) }
+    ensures within { IfSome result (IsTurnWithin (at + 1)) }
 {
     if depth == 0 {
         match symbol {
@@ -116,10 +118,11 @@ fn inside(depth: u32, symbol: Symbol, at: u32) -> Option<Turn>
 }
 
 fn root_named(slash: u32, depth: u32, symbol: Symbol, at: u32) -> Option<Turn>
+    requires behind { slash < at }
     requires shallow { depth ≤ at }
     requires more { at < 4294967295 }
     ensures follows { Follows (Rest (Place.RootNamed slash) depth) symbol at result }
-    ensures shallow { IfSome result (λ turn. turn.depth ≤ at + 1) }
+    ensures within { IfSome result (IsTurnWithin (at + 1)) }
 {
     match symbol {
         Symbol::Open => told(Place::Inside, depth + 1, Step::Root(slash)),
@@ -131,7 +134,7 @@ fn add_named(depth: u32, symbol: Symbol, at: u32) -> Option<Turn>
     requires shallow { depth ≤ at }
     requires more { at < 4294967295 }
     ensures follows { Follows (Rest Place.AddNamed depth) symbol at result }
-    ensures shallow { IfSome result (λ turn. turn.depth ≤ at + 1) }
+    ensures within { IfSome result (IsTurnWithin (at + 1)) }
 {
     match symbol {
         Symbol::Open => on(Place::Inside, depth + 1),
@@ -142,7 +145,7 @@ fn add_named(depth: u32, symbol: Symbol, at: u32) -> Option<Turn>
 fn closed(depth: u32, symbol: Symbol, at: u32) -> Option<Turn>
     requires { depth ≤ at }
     ensures follows { Follows (Rest Place.Closed depth) symbol at result }
-    ensures shallow { IfSome result (λ turn. turn.depth ≤ at + 1) }
+    ensures within { IfSome result (IsTurnWithin (at + 1)) }
 {
     match symbol {
         Symbol::Semicolon => on(Place::Inside, depth),
@@ -158,10 +161,11 @@ fn member(
     symbol: Symbol,
     at: u32,
 ) -> Option<Turn>
+    requires behind { word < at }
     requires shallow { depth ≤ at }
     requires more { at < 4294967295 }
     ensures follows { Follows (Rest (Place.Member word label property) depth) symbol at result }
-    ensures shallow { IfSome result (λ turn. turn.depth ≤ at + 1) }
+    ensures within { IfSome result (IsTurnWithin (at + 1)) }
 {
     if property {
         match symbol {
@@ -182,7 +186,7 @@ fn member(
 fn labelled(depth: u32, symbol: Symbol, at: u32) -> Option<Turn>
     requires { depth ≤ at }
     ensures follows { Follows (Rest Place.Labelled depth) symbol at result }
-    ensures shallow { IfSome result (λ turn. turn.depth ≤ at + 1) }
+    ensures within { IfSome result (IsTurnWithin (at + 1)) }
 {
     match symbol {
         Symbol::Word { label, .. } => on(Place::Node { word: at, label }, depth),
@@ -191,10 +195,11 @@ fn labelled(depth: u32, symbol: Symbol, at: u32) -> Option<Turn>
 }
 
 fn node(word: u32, label: bool, depth: u32, symbol: Symbol, at: u32) -> Option<Turn>
+    requires behind { word < at }
     requires shallow { depth ≤ at }
     requires more { at < 4294967295 }
     ensures follows { Follows (Rest (Place.Node word label) depth) symbol at result }
-    ensures shallow { IfSome result (λ turn. turn.depth ≤ at + 1) }
+    ensures within { IfSome result (IsTurnWithin (at + 1)) }
 {
     match symbol {
         Symbol::Colon => {
@@ -210,9 +215,11 @@ fn node(word: u32, label: bool, depth: u32, symbol: Symbol, at: u32) -> Option<T
 }
 
 fn value(name: u32, from: u32, depth: u32, symbol: Symbol, at: u32) -> Option<Turn>
-    requires { depth ≤ at }
+    requires name { name < at }
+    requires from { from ≤ at }
+    requires shallow { depth ≤ at }
     ensures follows { Follows (Rest (Place.Value name from) depth) symbol at result }
-    ensures shallow { IfSome result (λ turn. turn.depth ≤ at + 1) }
+    ensures within { IfSome result (IsTurnWithin (at + 1)) }
 {
     match symbol {
         Symbol::Less => on(Place::Cells { name, from }, depth),
@@ -224,9 +231,11 @@ fn value(name: u32, from: u32, depth: u32, symbol: Symbol, at: u32) -> Option<Tu
 }
 
 fn cells(name: u32, from: u32, depth: u32, symbol: Symbol, at: u32) -> Option<Turn>
-    requires { depth ≤ at }
+    requires name { name < at }
+    requires from { from ≤ at }
+    requires shallow { depth ≤ at }
     ensures follows { Follows (Rest (Place.Cells name from) depth) symbol at result }
-    ensures shallow { IfSome result (λ turn. turn.depth ≤ at + 1) }
+    ensures within { IfSome result (IsTurnWithin (at + 1)) }
 {
     match symbol {
         Symbol::Number => on(Place::Cells { name, from }, depth),
@@ -237,9 +246,11 @@ fn cells(name: u32, from: u32, depth: u32, symbol: Symbol, at: u32) -> Option<Tu
 }
 
 fn bytes(name: u32, from: u32, depth: u32, symbol: Symbol, at: u32) -> Option<Turn>
-    requires { depth ≤ at }
+    requires name { name < at }
+    requires from { from ≤ at }
+    requires shallow { depth ≤ at }
     ensures follows { Follows (Rest (Place.Bytes name from) depth) symbol at result }
-    ensures shallow { IfSome result (λ turn. turn.depth ≤ at + 1) }
+    ensures within { IfSome result (IsTurnWithin (at + 1)) }
 {
     match symbol {
         Symbol::Word { bytes, .. } => {
@@ -255,9 +266,11 @@ fn bytes(name: u32, from: u32, depth: u32, symbol: Symbol, at: u32) -> Option<Tu
 }
 
 fn part(name: u32, from: u32, depth: u32, symbol: Symbol, at: u32) -> Option<Turn>
-    requires { depth ≤ at }
+    requires name { name < at }
+    requires from { from ≤ at }
+    requires shallow { depth ≤ at }
     ensures follows { Follows (Rest (Place.Part name from) depth) symbol at result }
-    ensures shallow { IfSome result (λ turn. turn.depth ≤ at + 1) }
+    ensures within { IfSome result (IsTurnWithin (at + 1)) }
 {
     match symbol {
         Symbol::Semicolon => told(Place::Inside, depth, Step::Property { name, from, to: at }),
