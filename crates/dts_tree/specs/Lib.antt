@@ -2,4 +2,5 @@ pub mod Grammar
 pub mod Outline
 pub mod Rest
 pub mod Symbol
+pub mod Value
 pub mod Within

@@ -17,10 +17,10 @@ Reads text at [] (t ∷ ts) = ⊥
 Reads text at (k ∷ ks) [] = ⊥
 Reads text at (k ∷ ks) (t ∷ ts) = (t.at ≡ at) × (t.symbol ≡ symbol_of text k) × Reads text (at + 1) ks ts
 
--- the step, or none
-abbrev pub list_of : Option Step → List Step
+-- what is there, or nothing
+abbrev pub list_of : {X : Type 0} → Option X → List X
 list_of None = []
-list_of (Some step) = step ∷ []
+list_of (Some x) = x ∷ []
 
 -- the steps that tokens tell
 abbrev pub told_by : List Told → List Step

@@ -6,3 +6,4 @@ mod place;
 mod step;
 mod symbol;
 mod turn;
+mod value;

@@ -30,7 +30,11 @@ pub(crate) struct Outline {
 }
 
 /// The outline of a text with these tokens.
-pub(crate) fn outline_of(alloc: Global, text: &[u8], tokens: &[Token]) -> Result<Outline, AllocError>
+pub(crate) fn outline_of(
+    alloc: Global,
+    text: &[u8],
+    tokens: &[Token],
+) -> Result<Outline, AllocError>
     requires short { length text.now ≤ 4294967295 }
     requires spans { SpansRise 0 (length text.now) tokens.now }
     ensures outline { IfOk result (λ o. IsOutline text.now tokens.now o.steps o.fault) }
