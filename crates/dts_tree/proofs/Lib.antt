@@ -1,3 +1,4 @@
+mod NamesLemmas
 mod OutlineLemmas
 mod TurnLemmas
 mod ValueLemmas

@@ -1,4 +1,5 @@
 pub mod Grammar
+pub mod Names
 pub mod Outline
 pub mod Rest
 pub mod Symbol
