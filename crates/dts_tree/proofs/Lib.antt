@@ -1,4 +1,7 @@
-mod NamesLemmas
-mod OutlineLemmas
-mod TurnLemmas
-mod ValueLemmas
+pub mod NamesLemmas
+pub mod NumberedLemmas
+pub mod OrderLemmas
+pub mod OutlineLemmas
+pub mod ReaderLemmas
+pub mod TurnLemmas
+pub mod ValueLemmas

@@ -1,10 +1,18 @@
 //! Reads the tokens of a devicetree text into its tree, or names the first fault.
 #![tactic(auto)]
 
+mod fault;
 mod names;
+mod nodes;
+mod order;
 mod outline;
 mod place;
+mod reader;
+mod said;
+mod setting;
 mod step;
 mod symbol;
 mod turn;
 mod value;
+
+pub use fault::TreeFault;
