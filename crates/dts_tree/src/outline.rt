@@ -1,4 +1,4 @@
-ghost use Rattle.std.specs.Prelude.{◌≡◌, ◌≤◌, ◌<◌, ◌++◌, ◌↔◌, [], length, IsTrue, IfOk, OnOk, OnErr};
+ghost use Rattle.std.specs.Prelude.{◌≡◌, ◌≤◌, ◌<◌, ◌++◌, ◌-◌, ◌↔◌, [], length, IsTrue, IfOk, OnOk, OnErr};
 ghost use Rattle.std.specs.List.{AllByRecursion};
 ghost use Rattle.dts_lex.specs.Lex.{SpansRise};
 ghost use Rattle.dts_tree.specs.Outline.{IsOutline, fault_of, list_of};
@@ -39,6 +39,7 @@ pub(crate) fn outline_of(
     requires spans { SpansRise 0 (length text.now) tokens.now }
     ensures outline { IfOk result (λ o. IsOutline text.now tokens.now o.steps o.fault) }
     ensures within { IfOk result (λ o. AllByRecursion (IsStepWithin (length tokens.now)) o.steps) }
+    ensures few { IfOk result (λ o. length o.steps ≤ length tokens.now - 2) }
 {
     let mut steps = Items::new(alloc);
     let mut place = Place::Start;

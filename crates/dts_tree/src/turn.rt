@@ -1,6 +1,6 @@
 ghost use Rattle.std.specs.Prelude.{◌≡◌, ◌≤◌, ◌<◌, ◌+◌, IfSome};
 ghost use Rattle.dts_tree.specs.Rest.{Follows, Rest};
-ghost use Rattle.dts_tree.specs.Within.{IsPlaceWithin, IsTurnWithin};
+ghost use Rattle.dts_tree.specs.Within.{IsFew, IsPlaceWithin, IsTurnWithin};
 
 use crate::place::Place;
 use crate::step::Step;
@@ -22,6 +22,7 @@ pub(crate) fn next(place: Place, depth: u32, symbol: Symbol, at: u32) -> Option<
     requires more { at < 4294967295 }
     ensures follows { Follows (Rest place depth) symbol at result }
     ensures within { IfSome result (IsTurnWithin (at + 1)) }
+    ensures few { IfSome result (IsFew place) }
 {
     match place {
         Place::Start => start(symbol, at),
@@ -69,6 +70,7 @@ fn told(place: Place, depth: u32, step: Step) -> Option<Turn>
 fn start(symbol: Symbol, at: u32) -> Option<Turn>
     ensures follows { Follows (Rest Place.Start 0) symbol at result }
     ensures within { IfSome result (IsTurnWithin (at + 1)) }
+    ensures few { IfSome result (IsFew Place.Start) }
 {
     match symbol {
         Symbol::Version => on(Place::Versioned, 0),
@@ -79,6 +81,7 @@ fn start(symbol: Symbol, at: u32) -> Option<Turn>
 fn versioned(symbol: Symbol, at: u32) -> Option<Turn>
     ensures follows { Follows (Rest Place.Versioned 0) symbol at result }
     ensures within { IfSome result (IsTurnWithin (at + 1)) }
+    ensures few { IfSome result (IsFew Place.Versioned) }
 {
     match symbol {
         Symbol::Semicolon => on(Place::Inside, 0),
@@ -90,6 +93,7 @@ fn inside(depth: u32, symbol: Symbol, at: u32) -> Option<Turn>
     requires { depth ≤ at }
     ensures follows { Follows (Rest Place.Inside depth) symbol at result }
     ensures within { IfSome result (IsTurnWithin (at + 1)) }
+    ensures few { IfSome result (IsFew Place.Inside) }
 {
     if depth == 0 {
         match symbol {
@@ -123,6 +127,7 @@ fn root_named(slash: u32, depth: u32, symbol: Symbol, at: u32) -> Option<Turn>
     requires more { at < 4294967295 }
     ensures follows { Follows (Rest (Place.RootNamed slash) depth) symbol at result }
     ensures within { IfSome result (IsTurnWithin (at + 1)) }
+    ensures few { IfSome result (IsFew (Place.RootNamed slash)) }
 {
     match symbol {
         Symbol::Open => told(Place::Inside, depth + 1, Step::Root(slash)),
@@ -135,6 +140,7 @@ fn add_named(depth: u32, symbol: Symbol, at: u32) -> Option<Turn>
     requires more { at < 4294967295 }
     ensures follows { Follows (Rest Place.AddNamed depth) symbol at result }
     ensures within { IfSome result (IsTurnWithin (at + 1)) }
+    ensures few { IfSome result (IsFew Place.AddNamed) }
 {
     match symbol {
         Symbol::Open => on(Place::Inside, depth + 1),
@@ -146,6 +152,7 @@ fn closed(depth: u32, symbol: Symbol, at: u32) -> Option<Turn>
     requires { depth ≤ at }
     ensures follows { Follows (Rest Place.Closed depth) symbol at result }
     ensures within { IfSome result (IsTurnWithin (at + 1)) }
+    ensures few { IfSome result (IsFew Place.Closed) }
 {
     match symbol {
         Symbol::Semicolon => on(Place::Inside, depth),
@@ -166,6 +173,7 @@ fn member(
     requires more { at < 4294967295 }
     ensures follows { Follows (Rest (Place.Member word label property) depth) symbol at result }
     ensures within { IfSome result (IsTurnWithin (at + 1)) }
+    ensures few { IfSome result (IsFew (Place.Member word label property)) }
 {
     if property {
         match symbol {
@@ -187,6 +195,7 @@ fn labelled(depth: u32, symbol: Symbol, at: u32) -> Option<Turn>
     requires { depth ≤ at }
     ensures follows { Follows (Rest Place.Labelled depth) symbol at result }
     ensures within { IfSome result (IsTurnWithin (at + 1)) }
+    ensures few { IfSome result (IsFew Place.Labelled) }
 {
     match symbol {
         Symbol::Word { label, .. } => on(Place::Node { word: at, label }, depth),
@@ -200,6 +209,7 @@ fn node(word: u32, label: bool, depth: u32, symbol: Symbol, at: u32) -> Option<T
     requires more { at < 4294967295 }
     ensures follows { Follows (Rest (Place.Node word label) depth) symbol at result }
     ensures within { IfSome result (IsTurnWithin (at + 1)) }
+    ensures few { IfSome result (IsFew (Place.Node word label)) }
 {
     match symbol {
         Symbol::Colon => {
@@ -220,6 +230,7 @@ fn value(name: u32, from: u32, depth: u32, symbol: Symbol, at: u32) -> Option<Tu
     requires shallow { depth ≤ at }
     ensures follows { Follows (Rest (Place.Value name from) depth) symbol at result }
     ensures within { IfSome result (IsTurnWithin (at + 1)) }
+    ensures few { IfSome result (IsFew (Place.Value name from)) }
 {
     match symbol {
         Symbol::Less => on(Place::Cells { name, from }, depth),
@@ -236,6 +247,7 @@ fn cells(name: u32, from: u32, depth: u32, symbol: Symbol, at: u32) -> Option<Tu
     requires shallow { depth ≤ at }
     ensures follows { Follows (Rest (Place.Cells name from) depth) symbol at result }
     ensures within { IfSome result (IsTurnWithin (at + 1)) }
+    ensures few { IfSome result (IsFew (Place.Cells name from)) }
 {
     match symbol {
         Symbol::Number => on(Place::Cells { name, from }, depth),
@@ -251,6 +263,7 @@ fn bytes(name: u32, from: u32, depth: u32, symbol: Symbol, at: u32) -> Option<Tu
     requires shallow { depth ≤ at }
     ensures follows { Follows (Rest (Place.Bytes name from) depth) symbol at result }
     ensures within { IfSome result (IsTurnWithin (at + 1)) }
+    ensures few { IfSome result (IsFew (Place.Bytes name from)) }
 {
     match symbol {
         Symbol::Word { bytes, .. } => {
@@ -271,6 +284,7 @@ fn part(name: u32, from: u32, depth: u32, symbol: Symbol, at: u32) -> Option<Tur
     requires shallow { depth ≤ at }
     ensures follows { Follows (Rest (Place.Part name from) depth) symbol at result }
     ensures within { IfSome result (IsTurnWithin (at + 1)) }
+    ensures few { IfSome result (IsFew (Place.Part name from)) }
 {
     match symbol {
         Symbol::Semicolon => told(Place::Inside, depth, Step::Property { name, from, to: at }),

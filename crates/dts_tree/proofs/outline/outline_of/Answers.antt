@@ -1,5 +1,5 @@
 use Rattle.std.proofs.Common.{◌≡◌, ◌≤◌, ◌<◌, ◌++◌, ◌∙◌, [], length, take, get_or, refl, sym, ap, subst, inl, inr, arith, true, false, Some, None, Option, List, ℕ}
-use Rattle.std.proofs.lemmas.List.{take_all}
+use Rattle.std.proofs.lemmas.List.{take_all, length-append}
 use Rattle.dts_lex.specs.declared.token.Token.{Token}
 use Rattle.dts_lex.specs.declared.token.Kind.TheVariants as kind
 use Rattle.dts_tree.specs.declared.step.Step.{Step}
@@ -42,12 +42,15 @@ pub loop-at-preserved : goal.loop-at-preserved
 loop-at-preserved c =
     let now = c.loop-at.invariant in
     let within = c.in-Some.ensures.within in
+    let few = c.in-Some.ensures.few in
     rw c.in_ok-tell.ensures.ok (record {
       inside = omega arith;
       read = step_more c.args.text.now c.args.tokens.now c.loop-at.at blank c.loop-at.steps c.loop-at.place c.loop-at.depth c.symbol_of-symbol.result c.loop-at-test.true now.read c.symbol_of-symbol.ensures c.in-Some.turn c.in-Some.ensures.follows;
       shallow = within.0;
       behind = within.1;
       steps = steps_more c.loop-at.at c.loop-at.steps c.in-Some.turn.step now.steps within.2;
+      told = omega (arith, length-append c.loop-at.steps (list_of c.in-Some.turn.step), few.0, now.told);
+      silent = omega (arith, few.1, now.silent);
     })
 
 pub returns-clause-outline : goal.returns-clause-outline

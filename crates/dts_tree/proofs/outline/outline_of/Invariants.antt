@@ -1,6 +1,6 @@
-use Rattle.std.proofs.Common.{◌≡◌, ◌≤◌, ◌-◌, length, take}
+use Rattle.std.proofs.Common.{◌≡◌, ◌≤◌, ◌-◌, ◌+◌, length, take}
 use Rattle.std.specs.List.{AllByRecursion}
-use Rattle.dts_tree.specs.Within.{IsStepWithin, IsPlaceWithin}
+use Rattle.dts_tree.specs.Within.{IsStepWithin, IsPlaceWithin, silent}
 use Rattle.dts_tree.proofs.OutlineLemmas.{ReadTo}
 use Rattle.dts_tree.proofs.outline.outline_of.Given as goal
 
@@ -11,6 +11,8 @@ invariant-loop-at l = record {
   shallow : l.depth ≤ l.at;
   behind : IsPlaceWithin l.at l.place;
   steps : AllByRecursion (IsStepWithin l.at) l.steps;
+  told : length l.steps + 2 ≤ l.at + silent l.place;
+  silent : silent l.place ≤ 2 - l.at;
 }
 
 abbrev pub decreases-loop-at : goal.decreases-loop-at
