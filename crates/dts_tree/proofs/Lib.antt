@@ -1,5 +1,9 @@
+pub mod NamesLemmas
 pub mod NumberedLemmas
 pub mod OrderLemmas
+pub mod OutlineLemmas
 pub mod ReaderLemmas
 pub mod RenameLemmas
 pub mod ShapeLemmas
+pub mod TurnLemmas
+pub mod ValueLemmas

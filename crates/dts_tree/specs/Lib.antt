@@ -1,7 +1,14 @@
+pub mod Grammar
+pub mod Names
 pub mod Numbered
 pub mod Order
+pub mod Outline
 pub mod Path
 pub mod Reader
 pub mod Reading
 pub mod Rename
 pub mod Shape
+pub mod Rest
+pub mod Symbol
+pub mod Value
+pub mod Within

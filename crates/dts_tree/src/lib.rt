@@ -2,11 +2,17 @@
 #![tactic(auto)]
 
 mod fault;
+mod names;
 mod nodes;
 mod order;
+mod outline;
+mod place;
 mod reader;
 mod said;
 mod setting;
 mod step;
+mod symbol;
+mod turn;
+mod value;
 
 pub use fault::TreeFault;

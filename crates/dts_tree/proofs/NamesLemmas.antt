@@ -1,0 +1,101 @@
+-- What is known of names while tokens are read.
+use Rattle.std.proofs.Common.{◌≡◌, ◌≢◌, ℕ, ◌+◌, ◌<◌, ◌≤◌, List, [], ◌∷◌, ◌++◌, Bool, true, false, cond, ltb, Option, Some, None, length, get_or, take, map, refl, sym, ap, ◌∙◌, subst, arith}
+use Rattle.std.specs.BTreeMap.{BTreeMap, get_by}
+use Rattle.std.specs.Cmp.Lexicographic.{slice_cmp}
+use Rattle.std.specs.Ordering.{nat_cmp}
+use Rattle.std.specs.Map.{update}
+use Rattle.std.specs.Str.{bytes_eq}
+use Rattle.std.specs.List.{position_or_len}
+use Rattle.std.proofs.lemmas.Bool.{cond_both, ltb-true, ltb-false, lt-ltb, le-ltb}
+use Rattle.std.proofs.lemmas.List.{take_more, map-append}
+use Rattle.std.proofs.lemmas.List.Sums.{passes_at_first, fails_before_first}
+use Rattle.std.proofs.lemmas.Slice.Eq.{bytes_eq-Decides}
+use denote.Ref.{Bor}
+use Rattle.dts_lex.specs.declared.token.Token.{Token}
+use Rattle.dts_tree.specs.Names.{name_of, first_with, number_in, or_else, or_this}
+
+or_else_none : (o : Option ℕ) → o ≡ or_else o None
+or_else_none None = refl
+or_else_none (Some x) = refl
+
+or_else_pick : (b : Bool) (at : ℕ) (o : Option ℕ) → (b ≡ true → o ≡ None) → cond b (Some at) o ≡ or_else o (cond b (Some at) None)
+or_else_pick true at o none = sym (ap (λ r. or_else r (Some at)) (none refl))
+or_else_pick false at o none = or_else_none o
+
+-- a map with one more name at its place
+pub known_on : (old new : BTreeMap (Bor (List ℕ)) ℕ) (name : List ℕ) (at : ℕ) → get_by (λ k. slice_cmp nat_cmp name k.now) old ≡ None → ((q : List ℕ) → get_by (λ k. slice_cmp nat_cmp q k.now) new ≡ update bytes_eq (λ ds. get_by (λ k. slice_cmp nat_cmp ds k.now) old) name (Some at) q) → (q : List ℕ) → get_by (λ k. slice_cmp nat_cmp q k.now) new ≡ or_else (get_by (λ k. slice_cmp nat_cmp q k.now) old) (cond (bytes_eq name q) (Some at) None)
+known_on old new name at absent updated q =
+    updated q
+    ∙ or_else_pick (bytes_eq name q) at (get_by (λ k. slice_cmp nat_cmp q k.now) old)
+    (λ is. subst (λ (s : List ℕ). get_by (λ (k : Bor (List ℕ)). slice_cmp nat_cmp s k.now) old ≡ None) ((bytes_eq-Decides name q).0 is) absent)
+
+-- the names before a place, each with its first token
+abbrev pub known_before : ℕ → ℕ → Option ℕ
+known_before first at = cond (ltb first at) (Some first) None
+
+module _ (text : List ℕ) (tokens : List Token) (at : ℕ) (d : Token) (inside : at < length tokens) where
+  before_here : (q : List ℕ) → first_with text tokens q < at → known_before (first_with text tokens q) at ≡ Some (first_with text tokens q)
+  before_here q before = rw (lt-ltb _ _ before) refl
+
+  not_before : (q : List ℕ) (end : ℕ) → end ≤ first_with text tokens q → known_before (first_with text tokens q) end ≡ None
+  not_before q end past = rw (le-ltb _ _ past) refl
+
+  -- a name whose first token comes later isn't this one's
+  other_name : (q : List ℕ) → at < first_with text tokens q → bytes_eq (name_of text (get_or tokens at d)) q ≡ false
+  unfolding first_with
+  other_name q later =
+      let fails = fails_before_first (λ (t : Token). bytes_eq q (name_of text t)) tokens at d later in
+      let name = name_of text (get_or tokens at d) in
+      elim (bytes_eq name q) as (λ (b : Bool). bytes_eq name q ≡ b → b ≡ false) [
+        | true ↦ λ is. (let back : bytes_eq q name ≡ true = (bytes_eq-Decides q name).1 (sym ((bytes_eq-Decides name q).0 is)) in sym back ∙ fails)
+        | false ↦ λ is. refl
+      ] refl
+
+  -- and one whose first token is here is
+  same_name : (q : List ℕ) → first_with text tokens q ≡ at → bytes_eq (name_of text (get_or tokens at d)) q ≡ true
+  unfolding first_with
+  same_name q here =
+      let p : Token → Bool = λ t. bytes_eq q (name_of text t) in
+      let passes : p (get_or tokens (position_or_len p tokens) d) ≡ true = passes_at_first p tokens d (omega (arith, here)) in
+      let now : p (get_or tokens at d) ≡ true = subst (λ (n : ℕ). p (get_or tokens n d) ≡ true) here passes in
+      (bytes_eq-Decides (name_of text (get_or tokens at d)) q).1 (sym ((bytes_eq-Decides q (name_of text (get_or tokens at d))).0 now))
+
+  pub known_more : (q : List ℕ) (old : Option ℕ) → old ≡ known_before (first_with text tokens q) at → or_else old (cond (bytes_eq (name_of text (get_or tokens at d)) q) (Some at) None) ≡ known_before (first_with text tokens q) (at + 1)
+  known_more q old is =
+      let first = first_with text tokens q in
+      let test = bytes_eq (name_of text (get_or tokens at d)) q in
+      let Goal : Type 0 = or_else old (cond test (Some at) None) ≡ known_before first (at + 1) in
+      let at_first : first < at → Goal = λ before.
+      (let found : old ≡ Some first = is ∙ before_here q before in
+      let later : known_before first (at + 1) ≡ Some first = rw (lt-ltb first (at + 1) (omega arith)) refl in
+      ap (λ o. or_else o (cond test (Some at) None)) found ∙ sym later) in
+      let none : at ≤ first → old ≡ None = λ past. is ∙ not_before q at past in
+      elim (ltb first at) as (λ (b : Bool). ltb first at ≡ b → Goal) [
+        | true ↦ λ lt. at_first (ltb-true first at lt)
+        | false ↦ λ ge. elim (ltb at first) as (λ (b : Bool). ltb at first ≡ b → Goal) [
+          | true ↦ λ lt.
+              (let later : at < first = ltb-true at first lt in
+              ap (λ o. or_else o (cond test (Some at) None)) (none (omega arith)) ∙ ap (λ b. cond b (Some at) None) (other_name q later) ∙ sym (not_before q (at + 1) (omega arith)))
+          | false ↦ λ le.
+              (let past : at ≤ first = ltb-false first at ge in
+              let near : first ≤ at = ltb-false at first le in
+              let here : first ≡ at = omega arith in
+              let later : known_before first (at + 1) ≡ Some first = rw (lt-ltb first (at + 1) (omega arith)) refl in
+              ap (λ o. or_else o (cond test (Some at) None)) (none past) ∙ ap (λ b. cond b (Some at) None) (same_name q here) ∙ ap Some (sym here) ∙ sym later)
+        ] refl
+      ] refl
+
+  pub number_here : (old : Option ℕ) → old ≡ known_before (number_in text tokens (get_or tokens at d)) at → or_this old at ≡ number_in text tokens (get_or tokens at d)
+  number_here old is =
+      let name = name_of text (get_or tokens at d) in
+      let first = first_with text tokens name in
+      elim (ltb first at) as (λ (b : Bool). ltb first at ≡ b → or_this old at ≡ first) [
+        | true ↦ λ lt. ap (λ o. or_this o at) (is ∙ before_here name (ltb-true first at lt))
+        | false ↦ λ ge.
+            (let past : at ≤ first = ltb-false first at ge in
+            let near : at < first → ⊥ = λ later. (let e : true ≡ false = sym ((bytes_eq-Decides name name).1 refl) ∙ other_name name later in cc) in
+            ap (λ o. or_this o at) (is ∙ not_before name at past) ∙ omega (arith, near))
+      ] refl
+
+pub map_more : {X Y : Type 0} (f : X → Y) (xs : List X) (at : ℕ) (d : X) (ys : List Y) (y : Y) → at < length xs → ys ≡ map f (take at xs) → y ≡ f (get_or xs at d) → ys ++ y ∷ [] ≡ map f (take (at + 1) xs)
+map_more f xs at d ys y inside before here = rw (take_more xs at d inside, map-append) (ap (λ zs. zs ++ y ∷ []) before ∙ ap (λ z. map f (take at xs) ++ z ∷ []) here)
