@@ -4,6 +4,7 @@ pub mod OrderLemmas
 pub mod OutlineLemmas
 pub mod ReaderLemmas
 pub mod RenameLemmas
+pub mod SettledLemmas
 pub mod ShapeLemmas
 pub mod TurnLemmas
 pub mod ValueLemmas

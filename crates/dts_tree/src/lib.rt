@@ -10,6 +10,7 @@ mod place;
 mod reader;
 mod said;
 mod setting;
+mod settled;
 mod step;
 mod symbol;
 mod turn;

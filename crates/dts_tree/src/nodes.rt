@@ -42,7 +42,9 @@ impl Nodes {
     }
 
     pub(crate) fn len(&self) -> usize
-        ensures { result ≡ length self.now }
+        ensures len { result ≡ length self.now }
+        ensures root { slice_index_or self.now 0 [] ≡ [] }
+        ensures apart { (j k : ℕ) → j < length self.now → k < length self.now → pointwise nat_eq (slice_index_or self.now j []) (slice_index_or self.now k []) ≡ nat_eq j k }
     {
         self.depths.len()
     }
