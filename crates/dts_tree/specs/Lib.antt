@@ -6,6 +6,7 @@ pub mod Outline
 pub mod Path
 pub mod Reader
 pub mod Reading
+pub mod Rename
 pub mod Rest
 pub mod Symbol
 pub mod Value

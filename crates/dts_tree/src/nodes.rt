@@ -58,7 +58,7 @@ impl Nodes {
     /// The number of the child of this name, which comes last where it wasn't there.
     pub(crate) fn child(&mut self, parent: u32, name: u32) -> Result<u32, AllocError>
         requires parent { parent < length self.old }
-        requires few { length self.old < 2 ^ 32 - 1 }
+        requires few { length self.old < 2 ^ 32 }
         requires shallow { length (slice_index_or self.old parent []) < 2 ^ 32 - 1 }
         ensures ok { let path = name ∷ slice_index_or self.old parent [] in OnOk result (self.new ≡ with_path nat_eq self.old path) }
         ensures number { let path = name ∷ slice_index_or self.old parent [] in IfOk result (λ k. k ≡ number_of nat_eq self.old path) }

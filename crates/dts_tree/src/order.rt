@@ -13,7 +13,7 @@ struct Links {
 /// The numbers of all nodes in tree order, where the parent of each but the first has a lower number.
 pub(crate) fn tree_order(alloc: Global, parents: &[u32]) -> Result<Vec<u32>, AllocError>
     requires some { 0 < length parents.now }
-    requires few { length parents.now < 2 ^ 32 }
+    requires few { length parents.now ≤ 2 ^ 32 }
     requires earlier { (j : ℕ) → 1 ≤ j → j < length parents.now → slice_index parents.now j < j }
     ensures { IfOk result (λ order. order.items ≡ in_tree_order parents.now) }
 {
@@ -40,7 +40,7 @@ fn put(waiting: &mut Vec<u32>, node: Option<u32>) -> Result<(), AllocError>
 
 fn links_of(alloc: Global, parents: &[u32]) -> Result<Links, AllocError>
     requires some { 0 < length parents.now }
-    requires few { length parents.now < 2 ^ 32 }
+    requires few { length parents.now ≤ 2 ^ 32 }
     requires earlier { (j : ℕ) → 1 ≤ j → j < length parents.now → slice_index parents.now j < j }
     ensures { IfOk result (λ links. Linked parents.now links.first.items links.next.items) }
 {

@@ -114,7 +114,7 @@ impl Reader {
 
     fn node(&mut self, name: u32, at: u32) -> Result<(), TreeFault>
         requires standing { Standing self.old }
-        requires few { length self.old.nodes < 2 ^ 32 - 1 }
+        requires few { length self.old.nodes < 2 ^ 32 }
         ensures standing { OnOk result (Standing self.new) }
         ensures ok { OnOk result (stepped nat_eq (reading self.old) (said.Node name at) ≡ Ok (reading self.new)) }
         ensures fault { IfErr result (λ fault. fault ≢ TreeFault.Memory → stepped nat_eq (reading self.old) (said.Node name at) ≡ Err fault) }
@@ -137,7 +137,7 @@ impl Reader {
     /// Reads one step.
     fn step(&mut self, said: &Said<u32>) -> Result<(), TreeFault>
         requires standing { Standing self.old }
-        requires few { length self.old.nodes < 2 ^ 32 - 1 }
+        requires few { length self.old.nodes < 2 ^ 32 }
         ensures standing { OnOk result (Standing self.new) }
         ensures ok { OnOk result (stepped nat_eq (reading self.old) said.now ≡ Ok (reading self.new)) }
         ensures fault { IfErr result (λ fault. fault ≢ TreeFault.Memory → stepped nat_eq (reading self.old) said.now ≡ Err fault) }
@@ -172,7 +172,7 @@ fn put_labels(
 
 /// Reads all steps, up to the first that is wrong. At `Memory` nothing is said of them.
 pub(crate) fn read(alloc: Global, steps: &[Said<u32>]) -> Result<Reader, TreeFault>
-    requires { length steps.now < 2 ^ 32 - 2 }
+    requires { length steps.now < 2 ^ 32 }
     ensures standing { IfOk result (λ reader. Standing reader) }
     ensures ok { IfOk result (λ reader. walked nat_eq nothing_read steps.now ≡ Ok (reading reader)) }
     ensures fault { IfErr result (λ fault. fault ≢ TreeFault.Memory → walked nat_eq nothing_read steps.now ≡ Err fault) }
