@@ -4,5 +4,6 @@ pub mod OrderLemmas
 pub mod OutlineLemmas
 pub mod ReaderLemmas
 pub mod RenameLemmas
+pub mod SayingLemmas
 pub mod TurnLemmas
 pub mod ValueLemmas

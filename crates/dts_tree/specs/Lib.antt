@@ -8,6 +8,7 @@ pub mod Reader
 pub mod Reading
 pub mod Rename
 pub mod Rest
+pub mod Saying
 pub mod Symbol
 pub mod Value
 pub mod Within
