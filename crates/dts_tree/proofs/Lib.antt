@@ -6,5 +6,6 @@ pub mod ReaderLemmas
 pub mod RenameLemmas
 pub mod SettledLemmas
 pub mod ShapeLemmas
+pub mod SayingLemmas
 pub mod TurnLemmas
 pub mod ValueLemmas

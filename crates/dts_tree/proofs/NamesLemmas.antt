@@ -1,18 +1,22 @@
 -- What is known of names while tokens are read.
-use Rattle.std.proofs.Common.{◌≡◌, ◌≢◌, ℕ, ◌+◌, ◌<◌, ◌≤◌, List, [], ◌∷◌, ◌++◌, Bool, true, false, cond, ltb, Option, Some, None, length, get_or, take, map, refl, sym, ap, ◌∙◌, subst, arith}
+use Rattle.std.proofs.Common.{◌≡◌, ◌≢◌, ℕ, ◌+◌, ◌-◌, ◌<◌, ◌≤◌, List, [], ◌∷◌, ◌++◌, Bool, true, false, cond, ltb, Option, Some, None, length, get_or, take, drop, map, refl, sym, ap, ◌∙◌, subst, arith}
 use Rattle.std.specs.BTreeMap.{BTreeMap, get_by}
 use Rattle.std.specs.Cmp.Lexicographic.{slice_cmp}
 use Rattle.std.specs.Ordering.{nat_cmp}
 use Rattle.std.specs.Map.{update}
 use Rattle.std.specs.Str.{bytes_eq}
 use Rattle.std.specs.List.{position_or_len}
-use Rattle.std.proofs.lemmas.Bool.{cond_both, ltb-true, ltb-false, lt-ltb, le-ltb}
-use Rattle.std.proofs.lemmas.List.{take_more, map-append}
+use Rattle.std.specs.Prelude.{nat_eq, slice_range}
+use Rattle.std.proofs.Common.{eqb}
+use Rattle.std.proofs.lemmas.Bool.{eq-eqb, eqb-true, eqb-false, ltb-true, ltb-false, lt-ltb, le-ltb}
+use Rattle.std.proofs.lemmas.List.{take_more, map-append, get_or-take, get_or-drop}
 use Rattle.std.proofs.lemmas.List.Sums.{passes_at_first, fails_before_first}
 use Rattle.std.proofs.lemmas.Slice.Eq.{bytes_eq-Decides}
 use denote.Ref.{Bor}
 use Rattle.dts_lex.specs.declared.token.Token.{Token}
-use Rattle.dts_tree.specs.Names.{name_of, first_with, number_in, or_else, or_this}
+use Rattle.dts_lex.specs.declared.token.Kind.{Kind}
+use Rattle.dts_lex.specs.declared.token.Kind.TheVariants as kind
+use Rattle.dts_tree.specs.Names.{name_by_kind, name_of, first_with, number_in, or_else, or_this, blank, name_at}
 
 or_else_none : (o : Option ℕ) → o ≡ or_else o None
 or_else_none None = refl
@@ -99,3 +103,62 @@ module _ (text : List ℕ) (tokens : List Token) (at : ℕ) (d : Token) (inside 
 
 pub map_more : {X Y : Type 0} (f : X → Y) (xs : List X) (at : ℕ) (d : X) (ys : List Y) (y : Y) → at < length xs → ys ≡ map f (take at xs) → y ≡ f (get_or xs at d) → ys ++ y ∷ [] ≡ map f (take (at + 1) xs)
 map_more f xs at d ys y inside before here = rw (take_more xs at d inside, map-append) (ap (λ zs. zs ++ y ∷ []) before ∙ ap (λ z. map f (take at xs) ++ z ∷ []) here)
+
+-- numbers and the names that they stand for
+
+module _ (text : List ℕ) (tokens : List Token) where
+  -- a name's number stands for it
+  pub name_of_number : (t : Token) (k : ℕ) → k < length tokens → get_or tokens k blank ≡ t → name_at text tokens (number_in text tokens t) ≡ name_of text t
+  unfolding name_at first_with
+  name_of_number t k inside is =
+      let p : Token → Bool = λ u. bytes_eq (name_of text t) (name_of text u) in
+      let first = position_or_len p tokens in
+      let itself : p (get_or tokens k blank) ≡ true = ap p is ∙ (bytes_eq-Decides (name_of text t) (name_of text t)).1 refl in
+      let early : k < first → ⊥ = λ later. (let e : true ≡ false = sym itself ∙ fails_before_first p tokens k blank later in cc) in
+      let there : p (get_or tokens first blank) ≡ true = passes_at_first p tokens blank (omega (arith, early)) in
+      let same : name_of text t ≡ name_of text (get_or tokens first blank) = (bytes_eq-Decides _ _).0 there in
+      let back : position_or_len (λ (u : Token). bytes_eq (name_of text (get_or tokens first blank)) (name_of text u)) tokens ≡ first = ap (λ (name : List ℕ). position_or_len (λ (u : Token). bytes_eq name (name_of text u)) tokens) (sym same) in
+      rw (eq-eqb _ _ back) (sym same)
+
+  bytes_below : ((i : ℕ) → get_or text i 0 < 256) → (from to : ℕ) → get_or (slice_range text from to) 0 0 < 256
+  bytes_below bytes from to =
+      elim (ltb 0 (to - from)) as (λ (b : Bool). ltb 0 (to - from) ≡ b → get_or (slice_range text from to) 0 0 < 256) [
+        | true ↦ λ some. rw (get_or-take (to - from) (drop from text) 0 0 (ltb-true _ _ some), get_or-drop from text 0 0) (bytes (from + 0))
+        | false ↦ λ past. let none : to - from ≡ 0 = omega (arith, ltb-false 0 (to - from) past) in rw none (omega arith)
+      ] refl
+
+  name_below : ((i : ℕ) → get_or text i 0 < 256) → (k : Kind) (t : Token) → get_or (name_by_kind text k t) 0 0 < 256
+  name_below bytes kind.Ref t = bytes_below bytes (t.start + 1) t.end
+  name_below bytes kind.Word t = bytes_below bytes t.start t.end
+  name_below bytes kind.Number t = bytes_below bytes t.start t.end
+  name_below bytes kind.Text t = bytes_below bytes t.start t.end
+  name_below bytes kind.Directive t = bytes_below bytes t.start t.end
+  name_below bytes kind.Sign t = bytes_below bytes t.start t.end
+
+  -- two numbers stand for one name only where they are equal
+  name_at_once : ((i : ℕ) → get_or text i 0 < 256) → (a b : ℕ) → name_at text tokens a ≡ name_at text tokens b → a ≡ b
+  unfolding name_at
+  name_at_once bytes a b is =
+      let name : ℕ → List ℕ = λ n. name_of text (get_or tokens n blank) in
+      let own : ℕ → Bool = λ n. eqb (first_with text tokens (name n)) n in
+      let short : (n : ℕ) → get_or (name n) 0 0 < 256 = λ n. name_below bytes (get_or tokens n blank).kind (get_or tokens n blank) in
+      elim (own a) as (λ (p : Bool). own a ≡ p → cond p (name a) ((256 + a) ∷ []) ≡ name_at text tokens b → a ≡ b) [
+        | true ↦ λ mine. elim (own b) as (λ (q : Bool). own b ≡ q → name a ≡ cond q (name b) ((256 + b) ∷ []) → a ≡ b) [
+          | true ↦ λ yours same. sym (eqb-true _ _ mine) ∙ ap (first_with text tokens) same ∙ eqb-true _ _ yours
+          | false ↦ λ yours same. absurd (let head : get_or (name a) 0 0 ≡ 256 + b = ap (λ xs. get_or xs 0 0) same in omega (arith, short a, head))
+        ] refl
+        | false ↦ λ mine. elim (own b) as (λ (q : Bool). own b ≡ q → ((256 + a) ∷ []) ≡ cond q (name b) ((256 + b) ∷ []) → a ≡ b) [
+          | true ↦ λ yours same. absurd (let head : 256 + a ≡ get_or (name b) 0 0 = ap (λ xs. get_or xs 0 0) same in omega (arith, short b, head))
+          | false ↦ λ yours same. let head : 256 + a ≡ 256 + b = ap (λ xs. get_or xs 0 0) same in omega (arith, head)
+        ] refl
+      ] refl is
+
+  pub names_tell : ((i : ℕ) → get_or text i 0 < 256) → (a b : ℕ) → bytes_eq (name_at text tokens a) (name_at text tokens b) ≡ nat_eq a b
+  names_tell bytes a b =
+      elim (nat_eq a b) as (λ (r : Bool). nat_eq a b ≡ r → bytes_eq (name_at text tokens a) (name_at text tokens b) ≡ r) [
+        | true ↦ λ same. (bytes_eq-Decides _ _).1 (ap (name_at text tokens) (eqb-true a b same))
+        | false ↦ λ differ. elim (bytes_eq (name_at text tokens a) (name_at text tokens b)) as (λ (r : Bool). bytes_eq (name_at text tokens a) (name_at text tokens b) ≡ r → r ≡ false) [
+          | true ↦ λ is. absurd (eqb-false a b differ (name_at_once bytes a b ((bytes_eq-Decides _ _).0 is)))
+          | false ↦ λ is. refl
+        ] refl
+      ] refl

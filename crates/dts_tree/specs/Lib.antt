@@ -10,6 +10,7 @@ pub mod Rename
 pub mod Settled
 pub mod Shape
 pub mod Rest
+pub mod Saying
 pub mod Symbol
 pub mod Value
 pub mod Within

@@ -1,5 +1,5 @@
 -- The names of a text. A name is told by the first token that has it.
-use Rattle.std.specs.Prelude.{ℕ, ◌+◌, List, Bool, Option, Some, None, slice_range, if◌then◌else◌}
+use Rattle.std.specs.Prelude.{ℕ, ◌+◌, ◌==◌, List, [], ◌∷◌, Bool, Option, Some, None, slice_index_or, slice_range, if◌then◌else◌}
 use Rattle.std.specs.List.{position_or_len}
 use Rattle.std.specs.Str.{bytes_eq}
 use Rattle.dts_lex.specs.declared.token.Kind.{Kind}
@@ -36,3 +36,15 @@ or_else None other = other
 abbrev pub or_this : {X : Type 0} → Option X → X → X
 or_this (Some x) other = x
 or_this None other = other
+
+abbrev pub blank : Token
+blank = record { kind = kind.Word; start = 0; end = 0 }
+
+-- a token by its place
+abbrev pub token_at : List Token → ℕ → Token
+token_at tokens k = slice_index_or tokens k blank
+
+-- the name of which a number is the number; another number stands for what is no name, and no two for
+-- the same
+unfoldable pub name_at : List ℕ → List Token → ℕ → List ℕ
+name_at text tokens n = if first_with text tokens (name_of text (token_at tokens n)) == n then name_of text (token_at tokens n) else (256 + n) ∷ []

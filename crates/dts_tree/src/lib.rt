@@ -9,6 +9,7 @@ mod outline;
 mod place;
 mod reader;
 mod said;
+mod saying;
 mod setting;
 mod settled;
 mod step;
