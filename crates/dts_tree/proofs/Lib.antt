@@ -7,5 +7,6 @@ pub mod RenameLemmas
 pub mod SettledLemmas
 pub mod ShapeLemmas
 pub mod SayingLemmas
+pub mod TreeLemmas
 pub mod TurnLemmas
 pub mod ValueLemmas

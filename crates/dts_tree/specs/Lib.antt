@@ -12,5 +12,6 @@ pub mod Shape
 pub mod Rest
 pub mod Saying
 pub mod Symbol
+pub mod Tree
 pub mod Value
 pub mod Within

@@ -14,7 +14,9 @@ mod setting;
 mod settled;
 mod step;
 mod symbol;
+mod tree;
 mod turn;
 mod value;
 
 pub use fault::TreeFault;
+pub use tree::Tree;
