@@ -5,5 +5,6 @@ pub mod OutlineLemmas
 pub mod ReaderLemmas
 pub mod RenameLemmas
 pub mod SayingLemmas
+pub mod TextReadingLemmas
 pub mod TurnLemmas
 pub mod ValueLemmas

@@ -10,5 +10,6 @@ pub mod Rename
 pub mod Rest
 pub mod Saying
 pub mod Symbol
+pub mod TextReading
 pub mod Value
 pub mod Within

@@ -13,6 +13,7 @@ mod saying;
 mod setting;
 mod step;
 mod symbol;
+mod text_reading;
 mod turn;
 mod value;
 
