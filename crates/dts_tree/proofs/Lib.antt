@@ -4,6 +4,8 @@ pub mod OrderLemmas
 pub mod OutlineLemmas
 pub mod ReaderLemmas
 pub mod RenameLemmas
+pub mod SettledLemmas
+pub mod ShapeLemmas
 pub mod SayingLemmas
 pub mod TextReadingLemmas
 pub mod TurnLemmas

@@ -1,5 +1,5 @@
 -- A new key behind keys that tell all nodes apart.
-use Rattle.std.proofs.Common.{◌≡◌, ℕ, ◌+◌, ◌<◌, ◌≤◌, List, [], ◌∷◌, ◌++◌, Bool, true, false, ◌&&◌, cond, inl, inr, length, map, get_or, Option, Some, None, nat_lt, refl, sym, ap, ◌∙◌, subst, nat_eq, not, add-one, arith}
+use Rattle.std.proofs.Common.{◌≡◌, ℕ, ◌+◌, ◌-◌, ◌<◌, ◌≤◌, List, [], ◌∷◌, ◌++◌, Bool, true, false, ◌&&◌, cond, inl, inr, length, map, get_or, Option, Some, None, nat_lt, refl, sym, ap, ◌∙◌, subst, nat_eq, not, add-one, arith}
 use Rattle.std.proofs.Math.Logic.{⊎_elim}
 use Rattle.std.specs.List.{position_or_len, position, list_any}
 use Rattle.std.specs.Cmp.Lexicographic.{pointwise}
@@ -76,6 +76,24 @@ module _ (keys : List (ℕ × ℕ)) (paths : List (List ℕ)) (h : Paths keys pa
           (λ past. rw (get_or_push keys k (0, 0) j (omega (arith, length_push keys k))) (omega (arith, length_push keys k, h.each)))
           (cases_lt j (length keys))
 
+    push_child : (j : ℕ) → j < length (keys ++ k ∷ []) → get_or (paths ++ (k.1 ∷ get_or paths k.0 []) ∷ []) (j + 1) [] ≡ (get_or (keys ++ k ∷ []) j (0, 0)).1 ∷ get_or (paths ++ (k.1 ∷ get_or paths k.0 []) ∷ []) (get_or (keys ++ k ∷ []) j (0, 0)).0 []
+    push_child j in_j =
+        ⊎_elim
+          (λ old.
+            let parent : (get_or keys j (0, 0)).0 < length paths = omega (arith, h.earlier j old, h.each, old) in
+            let next : j + 1 < length paths = omega (arith, old, h.each) in
+            rw (get_or_append_left keys (k ∷ []) (0, 0) j old)
+            (get_or_append_left paths ((k.1 ∷ get_or paths k.0 []) ∷ []) [] (j + 1) next
+            ∙ (h.child j old
+            ∙ ap (λ q. (get_or keys j (0, 0)).1 ∷ q) (sym (get_or_append_left paths ((k.1 ∷ get_or paths k.0 []) ∷ []) [] (get_or keys j (0, 0)).0 parent)))))
+          (λ past.
+            let last : length keys ≡ j = omega (arith, past, in_j, length_push keys k) in
+            let next : length paths ≡ j + 1 = omega (arith, last, h.each) in
+            rw (get_or_push keys k (0, 0) j last)
+            (get_or_push paths (k.1 ∷ get_or paths k.0 []) [] (j + 1) next
+            ∙ ap (λ q. k.1 ∷ q) (sym (get_or_append_left paths ((k.1 ∷ get_or paths k.0 []) ∷ []) [] k.0 inside))))
+          (cases_lt j (length keys))
+
     push_found : (p n : ℕ) → p < length (paths ++ (k.1 ∷ get_or paths k.0 []) ∷ []) → number_of nat_eq (paths ++ (k.1 ∷ get_or paths k.0 []) ∷ []) (n ∷ get_or (paths ++ (k.1 ∷ get_or paths k.0 []) ∷ []) p []) ≡ 1 + position_or_len (same_key (p, n)) (keys ++ k ∷ [])
     push_found p n in_p =
         ⊎_elim
@@ -123,6 +141,8 @@ module _ (keys : List (ℕ × ℕ)) (paths : List (List ℕ)) (h : Paths keys pa
       earlier = push_earlier;
       found = push_found;
       distinct = push_distinct;
+      child = push_child;
+      root = get_or_append_left paths ((k.1 ∷ get_or paths k.0 []) ∷ []) [] 0 (omega (arith, h.each)) ∙ h.root;
       closed = push_closed;
     }
 
@@ -174,6 +194,8 @@ numbered_root = record {
     earlier = λ k h. absurd (omega (arith, h));
     found = λ p n h. refl;
     distinct = λ k h. (let is : 0 ≡ k = omega (arith, h) in subst (λ (j : ℕ). number_of nat_eq ([] ∷ []) (get_or ([] ∷ []) j []) ≡ j) is refl);
+    child = λ k h. absurd (omega (arith, h));
+    root = refl;
     closed = λ n q e. refl;
   };
   deep = refl;
@@ -192,3 +214,10 @@ depths_long keys depths h = ap length h.deep ∙ length-map (paths_of keys) leng
 
 pub depth_at : (keys : List (ℕ × ℕ)) (depths : List ℕ) (k x : ℕ) → Numbered keys depths → k < length (paths_of keys) → x ≡ get_or depths k x → x ≡ get_or depths k 0
 depth_at keys depths k x h inside is = get_or_read depths k x (rw (depths_long keys depths h) inside) is 0
+
+-- the key of a node that isn't the root
+pub key-path : (keys : List (ℕ × ℕ)) (paths : List (List ℕ)) (node : ℕ) (k : ℕ × ℕ) → Paths keys paths → 0 < node → node < length paths → k ≡ get_or keys (node - 1) (0, 0) → (get_or paths node [] ≡ k.1 ∷ get_or paths k.0 []) × (k.0 < node)
+key-path keys paths node k h some inside is =
+    let at : node - 1 + 1 ≡ node = omega (arith, some) in
+    let within : node - 1 < length keys = omega (arith, some, inside, h.each) in
+    (rw is (ap (λ (n : ℕ). get_or paths n []) (sym at) ∙ h.child (node - 1) within), rw is (omega (arith, h.earlier (node - 1) within, some)))

@@ -109,19 +109,19 @@ first-none [] h = refl
 first-none (x ∷ xs) h = absurd (cc)
 
 -- ---- no more levels than nodes
-filter-passes : (p : ℕ → Bool) (x : ℕ) (xs : List ℕ) → p x ≡ true → filter p (x ∷ xs) ≡ x ∷ filter p xs
+pub filter-passes : (p : ℕ → Bool) (x : ℕ) (xs : List ℕ) → p x ≡ true → filter p (x ∷ xs) ≡ x ∷ filter p xs
 filter-passes p x xs h = cond-true (p x) (x ∷ filter p xs) (filter p xs) h
 
-filter-fails : (p : ℕ → Bool) (x : ℕ) (xs : List ℕ) → p x ≡ false → filter p (x ∷ xs) ≡ filter p xs
+pub filter-fails : (p : ℕ → Bool) (x : ℕ) (xs : List ℕ) → p x ≡ false → filter p (x ∷ xs) ≡ filter p xs
 filter-fails p x xs h = cond-false (p x) (x ∷ filter p xs) (filter p xs) h
 
-filter-none : (p : ℕ → Bool) (k m : ℕ) → ((j : ℕ) → k ≤ j → j < k + m → p j ≡ false) → filter p (range_with_len k m) ≡ []
+pub filter-none : (p : ℕ → Bool) (k m : ℕ) → ((j : ℕ) → k ≤ j → j < k + m → p j ≡ false) → filter p (range_with_len k m) ≡ []
 filter-none p k zero h = refl
 filter-none p k (suc m) h =
     filter-fails p k (range_with_len (k + 1) m) (h k (omega arith) (omega arith))
     ∙ filter-none p (k + 1) m (λ j low high. h j (omega (arith, low)) (omega (arith, high)))
 
-flat_map-children : (A B : ℕ → List ℕ) (p : ℕ → Bool) (k m : ℕ) → ((j : ℕ) → k ≤ j → j < k + m → p j ≡ true → A j ≡ B j) → flat_map A (filter p (range_with_len k m)) ≡ flat_map B (filter p (range_with_len k m))
+pub flat_map-children : {X : Type 0} (A B : ℕ → List X) (p : ℕ → Bool) (k m : ℕ) → ((j : ℕ) → k ≤ j → j < k + m → p j ≡ true → A j ≡ B j) → flat_map A (filter p (range_with_len k m)) ≡ flat_map B (filter p (range_with_len k m))
 flat_map-children A B p k zero h = refl
 flat_map-children A B p k (suc m) h =
     let xs : List ℕ = range_with_len (k + 1) m in
@@ -170,7 +170,7 @@ block-levels parents x n earlier is =
     ∙ ap (λ ys. x ∷ ys) (flat_map-children (below n parents) (below (length parents) parents) (λ j. nat_eq (get_or parents j 0) x) 1 (length parents - 1)
       (λ j low high passes. below-levels parents earlier n (length parents) j (omega (arith, is)) (omega arith)))
 
-block-step : (parents : List ℕ) (x : ℕ) → IsEarlier parents → 0 < length parents → block parents x ≡ x ∷ flat_map (block parents) (children_from parents x 1)
+pub block-step : (parents : List ℕ) (x : ℕ) → IsEarlier parents → 0 < length parents → block parents x ≡ x ∷ flat_map (block parents) (children_from parents x 1)
 unfolding block
 block-step parents x earlier some = block-levels parents x (length parents - 1) earlier (omega (arith, some))
 

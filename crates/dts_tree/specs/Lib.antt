@@ -7,6 +7,8 @@ pub mod Path
 pub mod Reader
 pub mod Reading
 pub mod Rename
+pub mod Settled
+pub mod Shape
 pub mod Rest
 pub mod Saying
 pub mod Symbol

@@ -14,6 +14,8 @@ pub record Paths (keys : List (ℕ × ℕ)) (paths : List (List ℕ)) : Type 0 w
   pub earlier : (k : ℕ) → k < length keys → (slice_index_or keys k (0, 0)).0 ≤ k
   pub found : (p n : ℕ) → p < length paths → number_of nat_eq paths (n ∷ slice_index_or paths p []) ≡ 1 + position_or_len (same_key (p, n)) keys
   pub distinct : (k : ℕ) → k < length paths → number_of nat_eq paths (slice_index_or paths k []) ≡ k
+  pub child : (k : ℕ) → k < length keys → slice_index_or paths (k + 1) [] ≡ (slice_index_or keys k (0, 0)).1 ∷ slice_index_or paths (slice_index_or keys k (0, 0)).0 []
+  pub root : slice_index_or paths 0 [] ≡ []
   pub closed : (n : ℕ) (q : List ℕ) → number_of nat_eq paths q ≡ length paths → number_of nat_eq paths (n ∷ q) ≡ length paths
 
 pub record Numbered (keys : List (ℕ × ℕ)) (depths : List ℕ) : Type 0 where

@@ -11,6 +11,7 @@ mod reader;
 mod said;
 mod saying;
 mod setting;
+mod settled;
 mod step;
 mod symbol;
 mod text_reading;

@@ -42,7 +42,9 @@ impl Nodes {
     }
 
     pub(crate) fn len(&self) -> usize
-        ensures { result ≡ length self.now }
+        ensures len { result ≡ length self.now }
+        ensures root { slice_index_or self.now 0 [] ≡ [] }
+        ensures apart { (j k : ℕ) → j < length self.now → k < length self.now → pointwise nat_eq (slice_index_or self.now j []) (slice_index_or self.now k []) ≡ nat_eq j k }
     {
         self.depths.len()
     }
@@ -53,6 +55,19 @@ impl Nodes {
         ensures { result ≡ length (slice_index_or self.now node []) }
     {
         self.depths[node as usize]
+    }
+
+    /// The number of a node's parent, and the node's name.
+    pub(crate) fn key(&self, node: u32) -> (u32, u32)
+        requires child { 0 < node }
+        requires inside { node < length self.now }
+        ensures path { slice_index_or self.now node [] ≡ result.1 ∷ slice_index_or self.now result.0 [] }
+        ensures earlier { result.0 < node }
+    {
+        match self.keys.get_index(node as usize - 1) {
+            Some(key) => *key,
+            None => (0, 0),
+        }
     }
 
     /// The number of the child of this name, which comes last where it wasn't there.
