@@ -8,5 +8,6 @@ pub mod SettledLemmas
 pub mod ShapeLemmas
 pub mod SayingLemmas
 pub mod TreeLemmas
+pub mod TextReadingLemmas
 pub mod TurnLemmas
 pub mod ValueLemmas

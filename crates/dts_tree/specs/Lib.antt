@@ -13,5 +13,6 @@ pub mod Rest
 pub mod Saying
 pub mod Symbol
 pub mod Tree
+pub mod TextReading
 pub mod Value
 pub mod Within

@@ -15,6 +15,7 @@ mod settled;
 mod step;
 mod symbol;
 mod tree;
+mod text_reading;
 mod turn;
 mod value;
 
