@@ -1,11 +1,15 @@
-ghost use Rattle.std.specs.Prelude.{◌≡◌, ◌<◌, ◌≤◌, ◌^◌, [], length, slice_index, slice_index_or};
+ghost use Rattle.std.specs.Prelude.{◌≡◌, ◌<◌, ◌≤◌, ◌^◌, [], length, slice_index, slice_index_or, IfOk, IfErr};
 ghost use Rattle.dts_tree.specs.Tree.{own_name, parent_among};
 
+use crate::fault::TreeFault;
 use crate::names::name_of;
 use crate::nodes::Nodes;
+use crate::reader::Reader;
+use crate::settled::{order_of, places_of, ranks_of, values_of};
 use dts_lex::Token;
 use indexmap::IndexMap;
 use item_list::Items;
+use std::alloc::{AllocError, Global};
 use std::marker::Model;
 
 /// The tree of a devicetree text: its nodes in tree order, each before its children, and their
@@ -35,6 +39,54 @@ impl Model for Tree {
 }
 
 impl Tree {
+    ghost use Rattle.dts_tree.specs.Reader.{Standing};
+    ghost use Rattle.dts_tree.specs.TextReading.{reading_in};
+    ghost use Rattle.dts_tree.specs.Tree.{tree_of, AreNamed};
+
+    /// The tree of what was read of a text.
+    pub(crate) fn of_reader(
+        alloc: Global,
+        text: &[u8],
+        tokens: &[Token],
+        reader: Reader,
+    ) -> Result<Tree, TreeFault>
+        requires standing { Standing reader }
+        requires named { AreNamed text.now tokens.now reader.nodes }
+        ensures tree { IfOk result (λ tree. tree ≡ tree_of text.now tokens.now (reading_in text.now tokens.now reader)) }
+        ensures fault { IfErr result (λ fault. fault ≡ TreeFault.Memory) }
+    {
+        let Reader {
+            nodes,
+            labels,
+            settings,
+            ..
+        } = reader;
+        let count = nodes.len();
+        // A text that is short enough for its places has fewer nodes.
+        if count > u32::MAX as usize {
+            return Err(TreeFault::Memory);
+        }
+        let order = order_of(alloc, &nodes)?;
+        if order.len() > u32::MAX as usize {
+            return Err(TreeFault::Memory);
+        }
+        let ranks = ranks_of(alloc, order.as_slice(), count)?;
+        let places = places_of(alloc, settings.as_slice(), count)?;
+        let values = values_of(alloc, settings.as_slice())?;
+        let text = copied(alloc, text)?;
+        let tokens = copied(alloc, tokens)?;
+        Ok(Tree {
+            text,
+            tokens,
+            nodes,
+            order: Items::from_vec(order),
+            ranks: Items::from_vec(ranks),
+            places: Items::from_vec(places),
+            labels,
+            values,
+        })
+    }
+
     /// How many nodes there are.
     pub fn count(&self) -> u32
         ensures { result ≡ length self.now.nodes }
@@ -77,4 +129,14 @@ impl Tree {
         let number = self.order.as_slice()[node as usize];
         self.places.as_slice()[number as usize]
     }
+}
+
+fn copied<T: Copy + Drop>(alloc: Global, items: &[T]) -> Result<Items<T>, AllocError>
+    ensures { IfOk result (λ copy. copy ≡ items.now) }
+{
+    let mut copy = Items::new(alloc);
+    for item in items {
+        copy.push(*item)?;
+    }
+    Ok(copy)
 }
