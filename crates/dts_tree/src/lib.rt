@@ -19,3 +19,6 @@ mod turn;
 mod value;
 
 pub use fault::TreeFault;
+
+#[cfg(test)]
+mod tests;
