@@ -7,6 +7,7 @@ pub mod RenameLemmas
 pub mod SettledLemmas
 pub mod ShapeLemmas
 pub mod SayingLemmas
+pub mod TreeLemmas
 pub mod TextReadingLemmas
 pub mod TurnLemmas
 pub mod ValueLemmas

@@ -4,6 +4,7 @@ use Rattle.std.proofs.Math.Logic.{⊎_elim}
 use Rattle.std.specs.List.{range_with_len, flat_map}
 use Rattle.std.proofs.lemmas.Bool.{cases_eq, cases_lt, cases_Bool, cond-true, cond-false, eq-eqb, ne_eqb, eqb-true}
 use Rattle.std.proofs.lemmas.List.{length-set, get_or-set_same, get_or-set_other, reverse-append, append-nil}
+use Rattle.dts_tree.specs.Reader.{AllBelow}
 use Rattle.dts_tree.specs.Order.{children_from, below, siblings_after, first_of, listed, Linked}
 
 -- from k on
@@ -261,3 +262,7 @@ walk-left parents order rest now_order now_rest s all earlier some told waits le
 
 pub reverse-taken : (before rest : List ℕ) (s : ℕ) → before ≡ rest ++ s ∷ [] → reverse before ≡ s ∷ reverse rest
 reverse-taken before rest s is = ap reverse is ∙ reverse-append rest (s ∷ [])
+
+pub all_below-append : (n : ℕ) (xs : List ℕ) (x : ℕ) → AllBelow n xs → x < n → AllBelow n (xs ++ x ∷ [])
+all_below-append n [] x h new = (new, tt)
+all_below-append n (y ∷ ys) x h new = (h.0, all_below-append n ys x h.1 new)

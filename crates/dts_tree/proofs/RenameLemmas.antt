@@ -22,7 +22,7 @@ map-cond g true x y = refl
 map-cond g false x y = refl
 
 module _ {M N : Type 0} (e : M → M → Bool) (eq : N → N → Bool) (f : M → N) (same : (a b : M) → eq (f a) (f b) ≡ e a b) where
-  path_same : (p q : List M) → pointwise eq (map f p) (map f q) ≡ pointwise e p q
+  pub path_same : (p q : List M) → pointwise eq (map f p) (map f q) ≡ pointwise e p q
   path_same [] [] = refl
   path_same [] (y ∷ ys) = refl
   path_same (x ∷ xs) [] = refl

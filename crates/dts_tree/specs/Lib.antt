@@ -12,6 +12,7 @@ pub mod Shape
 pub mod Rest
 pub mod Saying
 pub mod Symbol
+pub mod Tree
 pub mod TextReading
 pub mod Value
 pub mod Within

@@ -14,11 +14,13 @@ mod setting;
 mod settled;
 mod step;
 mod symbol;
+mod tree;
 mod text_reading;
 mod turn;
 mod value;
 
 pub use fault::TreeFault;
+pub use tree::Tree;
 
 #[cfg(test)]
 mod tests;

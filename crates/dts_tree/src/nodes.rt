@@ -63,6 +63,7 @@ impl Nodes {
         requires inside { node < length self.now }
         ensures path { slice_index_or self.now node [] ≡ result.1 ∷ slice_index_or self.now result.0 [] }
         ensures earlier { result.0 < node }
+        ensures apart { (j k : ℕ) → j < length self.now → k < length self.now → pointwise nat_eq (slice_index_or self.now j []) (slice_index_or self.now k []) ≡ nat_eq j k }
     {
         match self.keys.get_index(node as usize - 1) {
             Some(key) => *key,

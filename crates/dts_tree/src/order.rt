@@ -1,4 +1,5 @@
 ghost use Rattle.std.specs.Prelude.{◌≡◌, ℕ, ◌<◌, ◌≤◌, ◌+◌, ◌-◌, ◌^◌, ◌++◌, length, IfOk, OnOk, slice_index};
+ghost use Rattle.dts_tree.specs.Reader.{AllBelow};
 ghost use Rattle.dts_tree.specs.Order.{Linked, in_tree_order, listed};
 
 use std::alloc::{AllocError, Global};
@@ -15,7 +16,8 @@ pub(crate) fn tree_order(alloc: Global, parents: &[u32]) -> Result<Vec<u32>, All
     requires some { 0 < length parents.now }
     requires few { length parents.now ≤ 2 ^ 32 }
     requires earlier { (j : ℕ) → 1 ≤ j → j < length parents.now → slice_index parents.now j < j }
-    ensures { IfOk result (λ order. order.items ≡ in_tree_order parents.now) }
+    ensures order { IfOk result (λ order. order.items ≡ in_tree_order parents.now) }
+    ensures inside { IfOk result (λ order. AllBelow (length parents.now) order.items) }
 {
     let links = links_of(alloc, parents)?;
     let mut order = Vec::new(alloc);

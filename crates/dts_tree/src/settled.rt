@@ -1,7 +1,7 @@
 ghost use Rattle.std.specs.Prelude.{◌≡◌, ℕ, ◌<◌, ◌≤◌, ◌^◌, [], length, map, IfOk, OnOk, nat_eq, slice_index, slice_index_or};
 ghost use Rattle.std.specs.List.{position_or_len};
 ghost use Rattle.dts_tree.specs.Path.{with_path};
-ghost use Rattle.dts_tree.specs.Reader.{path_at};
+ghost use Rattle.dts_tree.specs.Reader.{path_at, AllBelow};
 ghost use Rattle.dts_tree.specs.Shape.{tree_order_of, ParentsOf};
 ghost use Rattle.dts_tree.specs.Settled.{first_place, values_of, with_value, with_place};
 
@@ -16,7 +16,8 @@ pub(crate) fn order_of(alloc: Global, nodes: &Nodes) -> Result<Vec<u32>, AllocEr
     requires some { 0 < length nodes.now }
     requires few { length nodes.now ≤ 2 ^ 32 }
     requires shallow { (k : ℕ) → length (path_at nodes.now k) ≤ 32 }
-    ensures { IfOk result (λ order. map (path_at nodes.now) order.items ≡ tree_order_of nat_eq nodes.now) }
+    ensures order { IfOk result (λ order. map (path_at nodes.now) order.items ≡ tree_order_of nat_eq nodes.now) }
+    ensures inside { IfOk result (λ order. AllBelow (length nodes.now) order.items) }
 {
     let _count = nodes.len();
     let parents = parents_of(alloc, nodes)?;

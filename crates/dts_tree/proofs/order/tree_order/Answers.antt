@@ -1,13 +1,13 @@
 use Rattle.std.proofs.Common.{◌≡◌, ◌∷◌, ◌++◌, ◌∙◌, ◌<◌, sym, ap, refl, [], List, ℕ, None, get_or, length, reverse, subst, arith, append-nil}
 use Rattle.std.proofs.lemmas.List.{get_or_read}
 use Rattle.dts_tree.specs.Order.{listed, first_of, children_from, siblings_after, in_tree_order, Linked}
-use Rattle.dts_tree.proofs.OrderLemmas.{Inside, pending, pending-step, inside-step, reverse-puts, pending-root, walk-left, reverse-taken, waits_after}
+use Rattle.dts_tree.proofs.OrderLemmas.{all_below-append, Inside, pending, pending-step, inside-step, reverse-puts, pending-root, walk-left, reverse-taken, waits_after}
 use Rattle.dts_tree.proofs.order.tree_order.Goals as goal
 
 pub loop-node-init : goal.loop-node-init
 loop-node-init c =
     let waiting : c.push.new.self.items ≡ 0 ∷ [] = c.in_ok-push.ensures.items ∙ ap (λ (ws : List ℕ). ws ++ 0 ∷ []) c.new-waiting.ensures.items in
-    rw (waiting, c.new-order.ensures.items) (record { inside = (c.requires.some, tt); left = pending-root c.args.parents.now })
+    rw (waiting, c.new-order.ensures.items) (record { inside = (c.requires.some, tt); told = tt; left = pending-root c.args.parents.now })
 
 -- what waits after the step
 waits : (c : goal.In_ok-put-2) → reverse c.put-in-Some.new.waiting.items ≡ waits_after c.args.parents.now c.in-Some.node (reverse c.pop.new.self.items)
@@ -30,6 +30,7 @@ loop-node-preserved c =
     let taken = reverse-taken c.loop-node.waiting.items c.pop.new.self.items c.in-Some.node c.in-Some.ensures.items in
     record {
       inside = rw (waits c) (inside-step c.args.parents.now c.in-Some.node (reverse c.pop.new.self.items) (rw taken at c.loop-node.invariant.inside).1);
+      told = rw c.in_ok-push-2.ensures.items (all_below-append (length c.args.parents.now) c.loop-node.order.items c.in-Some.node c.loop-node.invariant.told (rw taken at c.loop-node.invariant.inside).0);
       left = walk-left c.args.parents.now c.loop-node.order.items c.pop.new.self.items c.push-in-Some.new.self.items c.put-in-Some.new.waiting.items c.in-Some.node (in_tree_order c.args.parents.now) c.requires.earlier c.requires.some c.in_ok-push-2.ensures.items (waits c) (rw taken at c.loop-node.invariant.left);
     }
 

@@ -1,7 +1,8 @@
-use Rattle.std.proofs.Common.{◌≡◌, ◌<◌, ◌-◌, ◌+◌, length, sym, arith, false, true}
+use Rattle.std.proofs.Common.{◌≡◌, ◌<◌, ◌-◌, ◌+◌, List, ℕ, [], length, subst, nat_eq, get_or, sym, arith, false, true}
+use Rattle.std.specs.Cmp.Lexicographic.{pointwise}
 use Rattle.std.proofs.lemmas.Option.{get_or_from_slice_get}
 use Rattle.dts_tree.specs.Path.{paths_of}
-use Rattle.dts_tree.proofs.NumberedLemmas.{key-path}
+use Rattle.dts_tree.proofs.NumberedLemmas.{key-path, path_eq-numbers}
 use Rattle.dts_tree.proofs.nodes.Nodes.key.Goals as goal
 
 pub returns-in-Some-clause-path : goal.returns-in-Some-clause-path
@@ -27,3 +28,13 @@ returns-in-None-clause-path c =
 
 pub returns-in-None-clause-earlier : goal.returns-in-None-clause-earlier
 returns-in-None-clause-earlier c = c.requires.child
+
+pub returns-in-Some-clause-apart : goal.returns-in-Some-clause-apart
+returns-in-Some-clause-apart c =
+    let keys = c.self.inside.keys.keys in
+    subst (λ (paths : List (List ℕ)). (j k : ℕ) → j < length paths → k < length paths → pointwise nat_eq (get_or paths j []) (get_or paths k []) ≡ nat_eq j k) c.self.view_is (path_eq-numbers keys (paths_of keys) c.self.invariant.paths)
+
+pub returns-in-None-clause-apart : goal.returns-in-None-clause-apart
+returns-in-None-clause-apart c =
+    let keys = c.self.inside.keys.keys in
+    subst (λ (paths : List (List ℕ)). (j k : ℕ) → j < length paths → k < length paths → pointwise nat_eq (get_or paths j []) (get_or paths k []) ≡ nat_eq j k) c.self.view_is (path_eq-numbers keys (paths_of keys) c.self.invariant.paths)
