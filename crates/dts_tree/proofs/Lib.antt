@@ -4,6 +4,7 @@ pub mod OrderLemmas
 pub mod OutlineLemmas
 pub mod ReaderLemmas
 pub mod RenameLemmas
+pub mod SettleLemmas
 pub mod SettledLemmas
 pub mod ShapeLemmas
 pub mod SayingLemmas

@@ -27,7 +27,7 @@ pub all_below-wider : (n m : ℕ) (xs : List ℕ) → n ≤ m → AllBelow n xs 
 all_below-wider n m [] le h = tt
 all_below-wider n m (x ∷ xs) le h = (omega (arith, le, h.0), all_below-wider n m xs le h.1)
 
-all_below-id : (n : ℕ) (xs : List ℕ) → AllBelow n xs → AllBelow n (map (λ (x : ℕ). x) xs)
+pub all_below-id : (n : ℕ) (xs : List ℕ) → AllBelow n xs → AllBelow n (map (λ (x : ℕ). x) xs)
 all_below-id n [] h = tt
 all_below-id n (x ∷ xs) h = (h.0, all_below-id n xs h.1)
 

@@ -12,7 +12,7 @@ use Rattle.dts_tree.specs.Shape.{is_child_of, children_of, tree_below, tree_orde
 use Rattle.dts_tree.proofs.RenameLemmas.{map-cond}
 use Rattle.dts_tree.proofs.OrderLemmas.{block, block-step, filter-none, filter-passes, filter-fails, flat_map-children, IsEarlier}
 
-filter-map : {X Y : Type 0} (p : Y → Bool) (g : X → Y) (xs : List X) → filter p (map g xs) ≡ map g (filter (λ x. p (g x)) xs)
+pub filter-map : {X Y : Type 0} (p : Y → Bool) (g : X → Y) (xs : List X) → filter p (map g xs) ≡ map g (filter (λ x. p (g x)) xs)
 filter-map p g [] = refl
 filter-map p g (x ∷ xs) =
     ap (λ ys. cond (p (g x)) (g x ∷ ys) ys) (filter-map p g xs)
@@ -25,7 +25,7 @@ filter-same p q k (suc m) h =
     ap (λ b. cond b (k ∷ filter p (range_with_len (k + 1) m)) (filter p (range_with_len (k + 1) m))) (h k (omega arith) (omega arith))
     ∙ ap (λ xs. cond (q k) (k ∷ xs) xs) (filter-same p q (k + 1) m (λ j low high. h j (omega (arith, low)) (omega (arith, high))))
 
-map-flat_map : {X A B : Type 0} (h : A → B) (f : X → List A) (xs : List X) → map h (flat_map f xs) ≡ flat_map (λ x. map h (f x)) xs
+pub map-flat_map : {X A B : Type 0} (h : A → B) (f : X → List A) (xs : List X) → map h (flat_map f xs) ≡ flat_map (λ x. map h (f x)) xs
 map-flat_map h f [] = refl
 map-flat_map h f (x ∷ xs) = map-append h (f x) (flat_map f xs) ∙ ap (λ ys. map h (f x) ++ ys) (map-flat_map h f xs)
 

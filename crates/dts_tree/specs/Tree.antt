@@ -22,6 +22,10 @@ pub record DeviceTree : Type 0 where
   pub values : List ((List (List ℕ) × List ℕ) × List Token)
   pub labels : List (List ℕ × List (List ℕ))
 
+-- a value as the tokens that it is
+abbrev pub with_tokens : {K : Type 0} → List Token → K × (ℕ × ℕ) → K × List Token
+with_tokens tokens v = (v.0, slice_range tokens v.1.0 v.1.1)
+
 -- the tree of what was read of a text
 abbrev pub tree_of : List ℕ → List Token → Reading (List ℕ) → DeviceTree
 tree_of text tokens r =
@@ -30,7 +34,7 @@ tree_of text tokens r =
       text = text;
       nodes = nodes;
       places = map (λ path. first_place (pointwise bytes_eq path) r.settings) nodes;
-      values = map (λ v. (v.0, slice_range tokens v.1.0 v.1.1)) (values_of (pointwise bytes_eq) bytes_eq r.settings);
+      values = map (with_tokens tokens) (values_of (pointwise bytes_eq) bytes_eq r.settings);
       labels = r.labels;
     }
 
@@ -60,6 +64,13 @@ pub record Settled (text : List ℕ) (tokens : List Token) (nodes : List (List �
   pub named : (k name : ℕ) (path : List ℕ) → path_at nodes k ≡ name ∷ path → name_at text tokens name ≡ name_of text (token_at tokens name)
   pub known : (k name : ℕ) (path : List ℕ) → path_at nodes k ≡ name ∷ path → name < length tokens
 
+-- the name and the path of a node in place of their numbers
+abbrev pub kept_value : (ℕ → List ℕ) → List (List ℕ) → (ℕ × ℕ) × (ℕ × ℕ) → (List (List ℕ) × List ℕ) × (ℕ × ℕ)
+kept_value name nodes v = ((map name (path_at nodes v.0.0), name v.0.1), v.1)
+
+abbrev pub kept_label : (ℕ → List ℕ) → List (List ℕ) → ℕ × ℕ → List ℕ × List (List ℕ)
+kept_label name nodes l = (name l.0, map name (path_at nodes l.1))
+
 -- the tree that is kept with numbers for nodes and names
 unfoldable pub kept_tree : List ℕ → List Token → List (List ℕ) → List ℕ → List ℕ → List (ℕ × ℕ) → List ((ℕ × ℕ) × (ℕ × ℕ)) → DeviceTree
 kept_tree text tokens nodes order places labels values =
@@ -68,6 +79,6 @@ kept_tree text tokens nodes order places labels values =
       text = text;
       nodes = map (λ k. map name (path_at nodes k)) order;
       places = map (λ k. slice_index places k) order;
-      values = map (λ v. ((map name (path_at nodes v.0.0), name v.0.1), slice_range tokens v.1.0 v.1.1)) values;
-      labels = map (λ l. (name l.0, map name (path_at nodes l.1))) labels;
+      values = map (λ v. with_tokens tokens (kept_value name nodes v)) values;
+      labels = map (kept_label name nodes) labels;
     }
