@@ -173,6 +173,17 @@ module _ (text : List ℕ) (tokens : List Token) where
       let below : first < length tokens = omega (arith, early) in
       rw (lt-ltb first (length tokens) below, eq-eqb _ _ back) (sym same)
 
+  -- and is that of the token at that place
+  pub number_named : (t : Token) (k : ℕ) → k < length tokens → get_or tokens k blank ≡ t → (number_in text tokens t < length tokens) × (name_at text tokens (number_in text tokens t) ≡ name_of text (get_or tokens (number_in text tokens t) blank))
+  unfolding first_with
+  number_named t k inside is =
+      let p : Token → Bool = λ u. bytes_eq (name_of text t) (name_of text u) in
+      let first = position_or_len p tokens in
+      let itself : p (get_or tokens k blank) ≡ true = ap p is ∙ (bytes_eq-Decides (name_of text t) (name_of text t)).1 refl in
+      let early : k < first → ⊥ = λ later. (let e : true ≡ false = sym itself ∙ fails_before_first p tokens k blank later in cc) in
+      let below : first < length tokens = omega (arith, early) in
+      (below, name_of_number t k inside is ∙ (bytes_eq-Decides _ _).0 (passes_at_first p tokens blank below))
+
   bytes_below : ((i : ℕ) → get_or text i 0 < 256) → (from to : ℕ) → get_or (slice_range text from to) 0 0 < 256
   bytes_below bytes from to =
       elim (ltb 0 (to - from)) as (λ (b : Bool). ltb 0 (to - from) ≡ b → get_or (slice_range text from to) 0 0 < 256) [
