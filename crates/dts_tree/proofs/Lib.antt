@@ -1,3 +1,4 @@
+pub mod NamedLemmas
 pub mod NamesLemmas
 pub mod NumberedLemmas
 pub mod OrderLemmas

@@ -1,9 +1,13 @@
 -- What is known of names while tokens are read.
-use Rattle.std.proofs.Common.{◌≡◌, ◌≢◌, ℕ, ◌+◌, ◌-◌, ◌<◌, ◌≤◌, List, [], ◌∷◌, ◌++◌, Bool, true, false, cond, ltb, Option, Some, None, length, get_or, take, drop, map, refl, sym, ap, ◌∙◌, subst, arith}
-use Rattle.std.specs.BTreeMap.{BTreeMap, get_by}
+use Rattle.std.proofs.Common.{◌≡◌, ◌≢◌, ℕ, ◌+◌, ◌-◌, ◌<◌, ◌≤◌, List, [], ◌∷◌, ◌++◌, Bool, true, false, ◌&&◌, cond, ltb, Option, Some, None, length, get_or, take, drop, map, refl, sym, ap, ◌∙◌, subst, arith}
+use Rattle.std.specs.BTreeMap.{BTreeMap, get_by, is_at, insert_entry}
+use Rattle.std.proofs.Common.{Vec, Global}
 use Rattle.std.specs.Cmp.Lexicographic.{slice_cmp}
-use Rattle.std.specs.Ordering.{nat_cmp}
-use Rattle.std.specs.Map.{update}
+use Rattle.std.specs.Ordering.{nat_cmp, is_eq, match_ordering}
+use Rattle.std.specs.declared.cmp.Ordering.{Ordering}
+use Rattle.std.specs.declared.cmp.Ordering.TheVariants.{Less, Equal, Greater}
+use Rattle.std.proofs.lemmas.Map.Text.{is_eq-slice_cmp}
+use Rattle.std.specs.Map.{lookup}
 use Rattle.std.specs.Str.{bytes_eq}
 use Rattle.std.specs.List.{position_or_len}
 use Rattle.std.specs.Prelude.{nat_eq, slice_range}
@@ -12,11 +16,10 @@ use Rattle.std.proofs.lemmas.Bool.{eq-eqb, eqb-true, eqb-false, ltb-true, ltb-fa
 use Rattle.std.proofs.lemmas.List.{take_more, map-append, get_or-take, get_or-drop}
 use Rattle.std.proofs.lemmas.List.Sums.{passes_at_first, fails_before_first}
 use Rattle.std.proofs.lemmas.Slice.Eq.{bytes_eq-Decides}
-use denote.Ref.{Bor}
 use Rattle.dts_lex.specs.declared.token.Token.{Token}
 use Rattle.dts_lex.specs.declared.token.Kind.{Kind}
 use Rattle.dts_lex.specs.declared.token.Kind.TheVariants as kind
-use Rattle.dts_tree.specs.Names.{name_by_kind, name_of, first_with, number_in, or_else, or_this, blank, name_at}
+use Rattle.dts_tree.specs.Names.{name_by_kind, name_of, first_with, number_in, or_else, or_this, known_before, blank, name_at}
 
 or_else_none : (o : Option ℕ) → o ≡ or_else o None
 or_else_none None = refl
@@ -26,16 +29,61 @@ or_else_pick : (b : Bool) (at : ℕ) (o : Option ℕ) → (b ≡ true → o ≡ 
 or_else_pick true at o none = sym (ap (λ r. or_else r (Some at)) (none refl))
 or_else_pick false at o none = or_else_none o
 
--- a map with one more name at its place
-pub known_on : (old new : BTreeMap (Bor (List ℕ)) ℕ) (name : List ℕ) (at : ℕ) → get_by (λ k. slice_cmp nat_cmp name k.now) old ≡ None → ((q : List ℕ) → get_by (λ k. slice_cmp nat_cmp q k.now) new ≡ update bytes_eq (λ ds. get_by (λ k. slice_cmp nat_cmp ds k.now) old) name (Some at) q) → (q : List ℕ) → get_by (λ k. slice_cmp nat_cmp q k.now) new ≡ or_else (get_by (λ k. slice_cmp nat_cmp q k.now) old) (cond (bytes_eq name q) (Some at) None)
-known_on old new name at absent updated q =
-    updated q
-    ∙ or_else_pick (bytes_eq name q) at (get_by (λ k. slice_cmp nat_cmp q k.now) old)
-    (λ is. subst (λ (s : List ℕ). get_by (λ (k : Bor (List ℕ)). slice_cmp nat_cmp s k.now) old ≡ None) ((bytes_eq-Decides name q).0 is) absent)
+bytes_eq-swap : (a b : List ℕ) → bytes_eq a b ≡ bytes_eq b a
+bytes_eq-swap a b =
+    elim (bytes_eq b a) as (λ (r : Bool). bytes_eq b a ≡ r → bytes_eq a b ≡ r) [
+      | true ↦ λ is. (bytes_eq-Decides a b).1 (sym ((bytes_eq-Decides b a).0 is))
+      | false ↦ λ is. elim (bytes_eq a b) as (λ (r : Bool). bytes_eq a b ≡ r → r ≡ false) [
+        | true ↦ λ back. sym ((bytes_eq-Decides b a).1 (sym ((bytes_eq-Decides a b).0 back))) ∙ is
+        | false ↦ λ back. refl
+      ] refl
+    ] refl
 
--- the names before a place, each with its first token
-abbrev pub known_before : ℕ → ℕ → Option ℕ
-known_before first at = cond (ltb first at) (Some first) None
+abbrev Name : Type 0
+Name = Vec ℕ Global
+
+abbrev Entries : Type 0
+Entries = List (Name × ℕ)
+
+abbrev found : List ℕ → Entries → Option ℕ
+found q es = lookup (is_at (λ (k : Name). slice_cmp nat_cmp q k.items)) es
+
+abbrev put : Entries → Name → ℕ → Entries
+put es k v = insert_entry (λ (a b : Name). slice_cmp nat_cmp a.items b.items) es k v
+
+pick_same : (b : Bool) (v w : ℕ) (o : Option ℕ) → cond b (Some v) o ≡ cond b (Some v) (cond b (Some w) o)
+pick_same true v w o = refl
+pick_same false v w o = refl
+
+-- what a map with one more entry has at a name
+found_put : (es : Entries) (k : Name) (v : ℕ) (q : List ℕ) → found q (put es k v) ≡ cond (bytes_eq k.items q) (Some v) (found q es)
+found_put [] k v q = ap (λ b. cond b (Some v) None) (is_eq-slice_cmp q k.items ∙ bytes_eq-swap q k.items)
+found_put (e ∷ es) k v q =
+    elim (slice_cmp nat_cmp k.items e.0.items) as (λ (o : Ordering). slice_cmp nat_cmp k.items e.0.items ≡ o → found q (match_ordering o ((k, v) ∷ e ∷ es) ((e.0, v) ∷ es) (e ∷ put es k v)) ≡ cond (bytes_eq k.items q) (Some v) (found q (e ∷ es))) [
+      | Less ↦ λ is. ap (λ b. cond b (Some v) (found q (e ∷ es))) (is_eq-slice_cmp q k.items ∙ bytes_eq-swap q k.items)
+      | Equal ↦ λ is.
+        (let same : k.items ≡ e.0.items = (bytes_eq-Decides k.items e.0.items).0 (sym (is_eq-slice_cmp k.items e.0.items) ∙ ap is_eq is) in
+        let here : is_eq (slice_cmp nat_cmp q e.0.items) ≡ bytes_eq k.items q = is_eq-slice_cmp q e.0.items ∙ bytes_eq-swap q e.0.items ∙ ap (λ xs. bytes_eq xs q) (sym same) in
+        ap (λ b. cond b (Some v) (found q es)) here
+        ∙ pick_same (bytes_eq k.items q) v e.1 (found q es)
+        ∙ ap (λ b. cond (bytes_eq k.items q) (Some v) (cond b (Some e.1) (found q es))) (sym here))
+      | Greater ↦ λ is.
+        (elim (bytes_eq k.items q) as (λ (b : Bool). bytes_eq k.items q ≡ b → cond (is_eq (slice_cmp nat_cmp q e.0.items)) (Some e.1) (found q (put es k v)) ≡ cond b (Some v) (cond (is_eq (slice_cmp nat_cmp q e.0.items)) (Some e.1) (found q es))) [
+          | true ↦ λ same.
+            (let other : is_eq (slice_cmp nat_cmp q e.0.items) ≡ false = ap (λ xs. is_eq (slice_cmp nat_cmp xs e.0.items)) (sym ((bytes_eq-Decides k.items q).0 same)) ∙ ap is_eq is in
+            ap (λ b. cond b (Some e.1) (found q (put es k v))) other ∙ found_put es k v q ∙ ap (λ b. cond b (Some v) (found q es)) same)
+          | false ↦ λ differ. ap (λ o. cond (is_eq (slice_cmp nat_cmp q e.0.items)) (Some e.1) o) (found_put es k v q ∙ ap (λ b. cond b (Some v) (found q es)) differ)
+        ] refl)
+    ] refl
+
+-- a map with one more name at its place
+pub known_on : (old new : BTreeMap Name ℕ) (key : Name) (name : List ℕ) (at : ℕ) → key.items ≡ name → get_by (λ k. slice_cmp nat_cmp name k.items) old ≡ None → new.entries ≡ insert_entry (λ (a b : Name). slice_cmp nat_cmp a.items b.items) old.entries key at → (q : List ℕ) → get_by (λ k. slice_cmp nat_cmp q k.items) new ≡ or_else (get_by (λ k. slice_cmp nat_cmp q k.items) old) (cond (bytes_eq name q) (Some at) None)
+known_on old new key name at same absent put_is q =
+    ap (found q) put_is
+    ∙ found_put old.entries key at q
+    ∙ ap (λ xs. cond (bytes_eq xs q) (Some at) (found q old.entries)) same
+    ∙ or_else_pick (bytes_eq name q) at (found q old.entries)
+    (λ is. subst (λ (s : List ℕ). found s old.entries ≡ None) ((bytes_eq-Decides name q).0 is) absent)
 
 module _ (text : List ℕ) (tokens : List Token) (at : ℕ) (d : Token) (inside : at < length tokens) where
   before_here : (q : List ℕ) → first_with text tokens q < at → known_before (first_with text tokens q) at ≡ Some (first_with text tokens q)
@@ -104,6 +152,10 @@ module _ (text : List ℕ) (tokens : List Token) (at : ℕ) (d : Token) (inside 
 pub map_more : {X Y : Type 0} (f : X → Y) (xs : List X) (at : ℕ) (d : X) (ys : List Y) (y : Y) → at < length xs → ys ≡ map f (take at xs) → y ≡ f (get_or xs at d) → ys ++ y ∷ [] ≡ map f (take (at + 1) xs)
 map_more f xs at d ys y inside before here = rw (take_more xs at d inside, map-append) (ap (λ zs. zs ++ y ∷ []) before ∙ ap (λ z. map f (take at xs) ++ z ∷ []) here)
 
+and_second : (a b : Bool) → (a && b) ≡ true → b ≡ true
+and_second true b both = both
+and_second false b both = absurd (let e : false ≡ true = both in cc)
+
 -- numbers and the names that they stand for
 
 module _ (text : List ℕ) (tokens : List Token) where
@@ -118,7 +170,19 @@ module _ (text : List ℕ) (tokens : List Token) where
       let there : p (get_or tokens first blank) ≡ true = passes_at_first p tokens blank (omega (arith, early)) in
       let same : name_of text t ≡ name_of text (get_or tokens first blank) = (bytes_eq-Decides _ _).0 there in
       let back : position_or_len (λ (u : Token). bytes_eq (name_of text (get_or tokens first blank)) (name_of text u)) tokens ≡ first = ap (λ (name : List ℕ). position_or_len (λ (u : Token). bytes_eq name (name_of text u)) tokens) (sym same) in
-      rw (eq-eqb _ _ back) (sym same)
+      let below : first < length tokens = omega (arith, early) in
+      rw (lt-ltb first (length tokens) below, eq-eqb _ _ back) (sym same)
+
+  -- and is that of the token at that place
+  pub number_named : (t : Token) (k : ℕ) → k < length tokens → get_or tokens k blank ≡ t → (number_in text tokens t < length tokens) × (name_at text tokens (number_in text tokens t) ≡ name_of text (get_or tokens (number_in text tokens t) blank))
+  unfolding first_with
+  number_named t k inside is =
+      let p : Token → Bool = λ u. bytes_eq (name_of text t) (name_of text u) in
+      let first = position_or_len p tokens in
+      let itself : p (get_or tokens k blank) ≡ true = ap p is ∙ (bytes_eq-Decides (name_of text t) (name_of text t)).1 refl in
+      let early : k < first → ⊥ = λ later. (let e : true ≡ false = sym itself ∙ fails_before_first p tokens k blank later in cc) in
+      let below : first < length tokens = omega (arith, early) in
+      (below, name_of_number t k inside is ∙ (bytes_eq-Decides _ _).0 (passes_at_first p tokens blank below))
 
   bytes_below : ((i : ℕ) → get_or text i 0 < 256) → (from to : ℕ) → get_or (slice_range text from to) 0 0 < 256
   bytes_below bytes from to =
@@ -140,11 +204,12 @@ module _ (text : List ℕ) (tokens : List Token) where
   unfolding name_at
   name_at_once bytes a b is =
       let name : ℕ → List ℕ = λ n. name_of text (get_or tokens n blank) in
-      let own : ℕ → Bool = λ n. eqb (first_with text tokens (name n)) n in
+      let own : ℕ → Bool = λ n. ltb n (length tokens) && eqb (first_with text tokens (name n)) n in
+      let first : (n : ℕ) → own n ≡ true → first_with text tokens (name n) ≡ n = λ n mine. eqb-true _ _ (and_second (ltb n (length tokens)) _ mine) in
       let short : (n : ℕ) → get_or (name n) 0 0 < 256 = λ n. name_below bytes (get_or tokens n blank).kind (get_or tokens n blank) in
       elim (own a) as (λ (p : Bool). own a ≡ p → cond p (name a) ((256 + a) ∷ []) ≡ name_at text tokens b → a ≡ b) [
         | true ↦ λ mine. elim (own b) as (λ (q : Bool). own b ≡ q → name a ≡ cond q (name b) ((256 + b) ∷ []) → a ≡ b) [
-          | true ↦ λ yours same. sym (eqb-true _ _ mine) ∙ ap (first_with text tokens) same ∙ eqb-true _ _ yours
+          | true ↦ λ yours same. sym (first a mine) ∙ ap (first_with text tokens) same ∙ first b yours
           | false ↦ λ yours same. absurd (let head : get_or (name a) 0 0 ≡ 256 + b = ap (λ xs. get_or xs 0 0) same in omega (arith, short a, head))
         ] refl
         | false ↦ λ mine. elim (own b) as (λ (q : Bool). own b ≡ q → ((256 + a) ∷ []) ≡ cond q (name b) ((256 + b) ∷ []) → a ≡ b) [

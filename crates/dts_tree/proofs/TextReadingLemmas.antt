@@ -22,7 +22,8 @@ use Rattle.dts_tree.specs.declared.outline.OutlineFault.{OutlineFault}
 use Rattle.dts_tree.specs.Outline.{IsOutline}
 use Rattle.dts_tree.specs.TextReading.{read_of, names_label, reading_in, tree_fault, fault_behind, or_fault, checked, IsOutcome}
 use Rattle.dts_tree.specs.Within.{IsStepWithin}
-use Rattle.dts_tree.proofs.NamesLemmas.{name_of_number, names_tell}
+use Rattle.dts_tree.proofs.NamedLemmas.{SaysNamed, read_nodes_named, named_at}
+use Rattle.dts_tree.proofs.NamesLemmas.{name_of_number, names_tell, number_named}
 use Rattle.dts_tree.proofs.RenameLemmas.{walked_same, nothing_same}
 
 module _ (text : List ℕ) (tokens : List Token) where
@@ -133,3 +134,26 @@ module _ (text : List ℕ) (tokens : List Token) (bytes : (i : ℕ) → get_or t
 
     pub outcome_read : (o : Option OutlineFault) → IsOutline text tokens steps o → o ≡ None → None ≡ unknown_ref (λ t. is_some (lookup (nat_eq (number_in text tokens t)) reader.labels.entries)) tokens steps → IsOutcome text tokens (Ok (reading_in text tokens reader))
     outcome_read o outline none unknown = outcome_labels o None outline none unknown
+
+-- the names of nodes are those of tokens
+
+abbrev OfToken : List ℕ → List Token → ℕ → Type 0
+OfToken text tokens name = (name < length tokens) × (name_at text tokens name ≡ name_of text (get_or tokens name blank))
+
+says_named : (text : List ℕ) (tokens : List Token) (s : Step) → IsStepWithin (length tokens) s → SaysNamed (OfToken text tokens) (said_with (number_in text tokens) tokens s)
+says_named text tokens (Label word) within = tt
+says_named text tokens (Root slash) within = tt
+says_named text tokens (Node word) within = number_named text tokens (get_or tokens word blank) word within refl
+says_named text tokens (Add word) within = tt
+says_named text tokens Leave within = tt
+says_named text tokens (Property word from to) within = tt
+
+all_say_named : (text : List ℕ) (tokens : List Token) (steps : List Step) → AllByRecursion (IsStepWithin (length tokens)) steps → AllByRecursion (SaysNamed (OfToken text tokens)) (map (said_with (number_in text tokens) tokens) steps)
+all_say_named text tokens [] within = tt
+all_say_named text tokens (s ∷ ss) within = (says_named text tokens s within.0, all_say_named text tokens ss within.1)
+
+pub nodes_named : (text : List ℕ) (tokens : List Token) (steps : List Step) (reader : Reader) → AllByRecursion (IsStepWithin (length tokens)) steps → walked nat_eq nothing_read (map (said_with (number_in text tokens) tokens) steps) ≡ Ok (reading reader) → (k name : ℕ) (path : List ℕ) → get_or reader.nodes k [] ≡ name ∷ path → (name < length tokens) × (name_at text tokens name ≡ name_of text (get_or tokens name blank))
+nodes_named text tokens steps reader within is k name path here =
+    named_at (OfToken text tokens) reader.nodes k name path
+    (read_nodes_named (OfToken text tokens) (map (said_with (number_in text tokens) tokens) steps) (reading reader) (all_say_named text tokens steps within) is)
+    here

@@ -1,5 +1,5 @@
 -- The names of a text. A name is told by the first token that has it.
-use Rattle.std.specs.Prelude.{ℕ, ◌+◌, ◌==◌, List, [], ◌∷◌, Bool, Option, Some, None, slice_index_or, slice_range, if◌then◌else◌}
+use Rattle.std.specs.Prelude.{ℕ, ◌+◌, ◌==◌, ◌&&◌, nat_lt, length, List, [], ◌∷◌, Bool, Option, Some, None, slice_index_or, slice_range, if◌then◌else◌}
 use Rattle.std.specs.List.{position_or_len}
 use Rattle.std.specs.Str.{bytes_eq}
 use Rattle.dts_lex.specs.declared.token.Kind.{Kind}
@@ -32,6 +32,10 @@ abbrev pub or_else : {X : Type 0} → Option X → Option X → Option X
 or_else (Some x) other = Some x
 or_else None other = other
 
+-- a place, where it lies before another
+abbrev pub known_before : ℕ → ℕ → Option ℕ
+known_before first at = if nat_lt first at then Some first else None
+
 -- what is there, or this
 abbrev pub or_this : {X : Type 0} → Option X → X → X
 or_this (Some x) other = x
@@ -47,4 +51,4 @@ token_at tokens k = slice_index_or tokens k blank
 -- the name of which a number is the number; another number stands for what is no name, and no two for
 -- the same
 unfoldable pub name_at : List ℕ → List Token → ℕ → List ℕ
-name_at text tokens n = if first_with text tokens (name_of text (token_at tokens n)) == n then name_of text (token_at tokens n) else (256 + n) ∷ []
+name_at text tokens n = if nat_lt n (length tokens) && first_with text tokens (name_of text (token_at tokens n)) == n then name_of text (token_at tokens n) else (256 + n) ∷ []

@@ -21,3 +21,6 @@ mod value;
 
 pub use fault::TreeFault;
 pub use tree::Tree;
+
+#[cfg(test)]
+mod tests;

@@ -1,24 +1,25 @@
-ghost use Rattle.std.specs.Prelude.{◌≡◌, ◌≢◌, ◌≤◌, length, map, IfOk, IfErr};
+ghost use Rattle.std.specs.Prelude.{◌≡◌, ◌≢◌, ◌≤◌, ℕ, List, length, IfOk, IfErr};
+ghost use Rattle.std.specs.BTreeMap.{get_by};
+ghost use Rattle.std.specs.Cmp.Lexicographic.{slice_cmp};
+ghost use Rattle.std.specs.Ordering.{nat_cmp};
 ghost use Rattle.dts_lex.specs.Lex.{SpansRise};
-ghost use Rattle.dts_tree.specs.Names.{number_in};
+ghost use Rattle.dts_tree.specs.Names.{first_with, known_before};
 ghost use Rattle.dts_tree.specs.Reader.{Standing};
 ghost use Rattle.dts_tree.specs.TextReading.{IsOutcome, reading_in, tree_fault};
 
 use crate::fault::TreeFault;
-use crate::names::name_numbers;
+use crate::names::{Names, names_of};
 use crate::outline::{OutlineFault, outline_of};
 use crate::reader::{Reader, read};
 use crate::saying::{sayings, unknown_ref};
 use dts_lex::Token;
-use item_list::Items;
 use std::alloc::Global;
 
 /// What a text sets, with numbers for its nodes and names.
 #[derive(Drop)]
 pub(crate) struct TextReading {
     pub(crate) reader: Reader,
-    /// Of each token the number of its name.
-    pub(crate) numbers: Items<u32>,
+    pub(crate) names: Names,
 }
 
 /// Reads a text with these tokens, up to its first fault.
@@ -31,24 +32,25 @@ pub(crate) fn reading_of(
     requires spans { SpansRise 0 (length text.now) tokens.now }
     ensures ok { IfOk result (λ r. IsOutcome text.now tokens.now (Ok (reading_in text.now tokens.now r.reader))) }
     ensures standing { IfOk result (λ r. Standing r.reader) }
-    ensures numbers { IfOk result (λ r. r.numbers ≡ map (number_in text.now tokens.now) tokens.now) }
+    ensures firsts { IfOk result (λ r. (q : List ℕ)
+        → get_by (λ k. slice_cmp nat_cmp q k.items) r.names.firsts ≡ known_before (first_with text.now tokens.now q) (length tokens.now)) }
     ensures fault { IfErr result (λ fault. fault ≢ TreeFault.Memory → IsOutcome text.now tokens.now (Err fault)) }
 {
     let outline = outline_of(alloc, text, tokens)?;
-    let numbers = name_numbers(alloc, text, tokens)?;
-    let said = sayings(alloc, tokens, numbers.as_slice(), outline.steps.as_slice())?;
+    let names = names_of(alloc, text, tokens)?;
+    let said = sayings(alloc, tokens, names.numbers.as_slice(), outline.steps.as_slice())?;
     let reader = read(alloc, said.as_slice())?;
     if let Some(fault) = outline.fault {
         return Err(tree_fault(fault));
     }
     match unknown_ref(
         tokens,
-        numbers.as_slice(),
+        names.numbers.as_slice(),
         &reader.labels,
         outline.steps.as_slice(),
     ) {
         Some(token) => Err(TreeFault::NoLabel(token.start)),
-        None => Ok(TextReading { reader, numbers }),
+        None => Ok(TextReading { reader, names }),
     }
 }
 

@@ -1,0 +1,144 @@
+use crate::TreeFault;
+use dts_lex::lex;
+use std::alloc::{AllocError, Global};
+use std::test::Fail;
+
+/// One line for the tree, each node as its name, its place and its parent, or for the fault.
+fn shown(alloc: Global, text: &[u8]) -> Result<String, AllocError> {
+    let mut line = String::new(alloc);
+    if text.len() > 4_294_967_295 {
+        return Ok(line);
+    }
+    let Ok(found) = lex(alloc, text) else {
+        write!(line, "lex")?;
+        return Ok(line);
+    };
+    let tokens = found.as_slice();
+    match crate::text_reading::reading_of(alloc, text, tokens) {
+        Ok(_) => write!(line, "ok")?,
+        Err(TreeFault::Syntax(at)) => write!(line, "syntax {at}")?,
+        Err(TreeFault::NoLabel(at)) => write!(line, "nolabel {at}")?,
+        Err(TreeFault::TwoLabels(at)) => write!(line, "twolabels {at}")?,
+        Err(TreeFault::NotSupported { at, end }) => write!(line, "notsupported {at} {end}")?,
+        Err(TreeFault::TooDeep(at)) => write!(line, "toodeep {at}")?,
+        Err(TreeFault::Memory) => write!(line, "memory")?,
+    }
+    Ok(line)
+}
+
+const TABLE: [(&[u8], &str); 105] = [
+    (b"", "syntax 0"),
+    (b"/ { };", "syntax 0"),
+    (b"x", "syntax 0"),
+    (b"/dts-v1/", "syntax 8"),
+    (b"/dts-v1/ x", "syntax 9"),
+    (b"/dts-v1/; /dts-v1/;", "notsupported 10 18"),
+    (b"/plugin/; x", "notsupported 0 8"),
+    (b"/dts-v1/; /include/ \"f\"", "notsupported 10 19"),
+    (b"/dts-v1/; /memreserve/ 0 1;", "notsupported 10 22"),
+    (b"/dts-v1/; / x", "syntax 12"),
+    (b"/dts-v1/; / ;", "syntax 12"),
+    (b"/dts-v1/; /", "syntax 11"),
+    (b"/dts-v1/; / { }", "syntax 15"),
+    (b"/dts-v1/; / { } / { };", "syntax 16"),
+    (b"/dts-v1/; foo { };", "syntax 10"),
+    (b"/dts-v1/; ;", "syntax 10"),
+    (b"/dts-v1/; { };", "syntax 10"),
+    (b"/dts-v1/; / { }; }", "syntax 17"),
+    (b"/dts-v1/; / { }; \"s\"", "syntax 17"),
+    (b"/dts-v1/; &x { };", "nolabel 10"),
+    (b"/dts-v1/; &x", "nolabel 10"),
+    (b"/dts-v1/; &x ;", "nolabel 10"),
+    (b"/dts-v1/; &x { }; / { x: y { }; };", "nolabel 10"),
+    (b"/dts-v1/; / { x: y { }; }; &x ;", "syntax 30"),
+    (b"/dts-v1/; / { x: y { }; }; &x", "syntax 29"),
+    (b"/dts-v1/; &{/x} { };", "notsupported 10 12"),
+    (b"/dts-v1/; ( 1", "notsupported 10 11"),
+    (b"/dts-v1/;\n#include <x.h>", "notsupported 10 18"),
+    (b"/dts-v1/; / { \n \t#define A", "notsupported 17 24"),
+    (b"/dts-v1/; / { /delete-node/ x; };", "notsupported 14 27"),
+    (b"/dts-v1/; / { a = /bits/ 8 <1>; };", "notsupported 18 24"),
+    (b"/dts-v1/; / { a = (1); };", "notsupported 18 19"),
+    (b"/dts-v1/; / { a = <(1 + 2)>; };", "notsupported 19 20"),
+    (b"/dts-v1/; / { a = <&{/x}>; };", "notsupported 19 21"),
+    (b"/dts-v1/; / { a = <1\n#if>; };", "notsupported 21 24"),
+    (b"/dts-v1/; / { { }; };", "syntax 14"),
+    (b"/dts-v1/; / { ; };", "syntax 14"),
+    (b"/dts-v1/; / { \"s\"; };", "syntax 14"),
+    (b"/dts-v1/; / { &x; };", "syntax 14"),
+    (b"/dts-v1/; / { < };", "syntax 14"),
+    (b"/dts-v1/; / { / { }; };", "syntax 14"),
+    (b"/dts-v1/; / { ", "syntax 14"),
+    (b"/dts-v1/; / { a", "syntax 15"),
+    (b"/dts-v1/; / { a b; };", "syntax 16"),
+    (b"/dts-v1/; / { a } };", "syntax 16"),
+    (b"/dts-v1/; / { a@1 ; };", "syntax 18"),
+    (b"/dts-v1/; / { a@1 = <1>; };", "syntax 18"),
+    (b"/dts-v1/; / { a-b : c { }; };", "syntax 18"),
+    (b"/dts-v1/; / { 9a : c { }; };", "syntax 17"),
+    (b"/dts-v1/; / { a: b ; };", "syntax 19"),
+    (b"/dts-v1/; / { a: b = <1>; };", "syntax 19"),
+    (b"/dts-v1/; / { a: { }; };", "syntax 17"),
+    (b"/dts-v1/; / { a: : b { }; };", "syntax 17"),
+    (b"/dts-v1/; / { a:", "syntax 16"),
+    (b"/dts-v1/; / { a: b-c : d { }; };", "syntax 21"),
+    (b"/dts-v1/; / { c { } };", "syntax 20"),
+    (b"/dts-v1/; / { c { } c { }; };", "syntax 20"),
+    (b"/dts-v1/; / { a = ; };", "syntax 18"),
+    (b"/dts-v1/; / { a = b; };", "syntax 18"),
+    (b"/dts-v1/; / { a = 1; };", "syntax 18"),
+    (b"/dts-v1/; / { a = = <1>; };", "syntax 18"),
+    (b"/dts-v1/; / { a = <1> <2>; };", "syntax 22"),
+    (b"/dts-v1/; / { a = <1>, ; };", "syntax 23"),
+    (b"/dts-v1/; / { a = <1>,", "syntax 22"),
+    (b"/dts-v1/; / { a = \"s\" } };", "syntax 22"),
+    (b"/dts-v1/; / { a = <\"s\">; };", "syntax 19"),
+    (b"/dts-v1/; / { a = <1 b>; };", "syntax 21"),
+    (b"/dts-v1/; / { a = <1 < 2>; };", "syntax 21"),
+    (b"/dts-v1/; / { a = <1 ;", "syntax 21"),
+    (b"/dts-v1/; / { a = <1", "syntax 20"),
+    (b"/dts-v1/; / { a = [0]; };", "syntax 19"),
+    (b"/dts-v1/; / { a = [00 0g]; };", "syntax 22"),
+    (b"/dts-v1/; / { a = [<1>]; };", "syntax 19"),
+    (b"/dts-v1/; / { a = [00 &x]; };", "syntax 22"),
+    (b"/dts-v1/; / { a = [00", "syntax 21"),
+    (b"/dts-v1/; / { x: a { }; x: b { }; };", "twolabels 24"),
+    (b"/dts-v1/; / { x: a { }; z: x: b { }; };", "twolabels 27"),
+    (b"/dts-v1/; / { x: a { x: b { }; }; };", "twolabels 21"),
+    (b"/dts-v1/; / { x: a { }; y: b { }; x: y: c { }; };", "twolabels 34"),
+    (b"/dts-v1/; / { x: a { }; x: b ; };", "syntax 29"),
+    (b"/dts-v1/; / { x: a { b { }; }; c { x: b { }; }; };", "twolabels 35"),
+    (b"/dts-v1/; / { a = <&x>; };", "nolabel 19"),
+    (b"/dts-v1/; / { x = <&y>; };", "nolabel 19"),
+    (b"/dts-v1/; / { a = &x; };", "nolabel 18"),
+    (b"/dts-v1/; / { a = <1 &x &y>; };", "nolabel 21"),
+    (b"/dts-v1/; / { y: b { }; a = <&y>, <&x>; };", "nolabel 35"),
+    (b"/dts-v1/; / { a = <&x>; a = <1>; };", "nolabel 19"),
+    (b"/dts-v1/; / { a = <&x>; ; };", "syntax 24"),
+    (b"/dts-v1/; / { a { a { a { a { a { a { a { a { a { a { a { a { a { a { a { a { a { a { a { a { a { a { a { a { a { a { a { a { a { a { a { a { b { ", "toodeep 142"),
+    (b"/dts-v1/; / { a { a { a { a { a { a { a { a { a { a { a { a { a { a { a { a { a { a { a { a { a { a { a { a { a { a { a { a { a { a { a { a { b b", "syntax 144"),
+    (b"/dts-v1/; / { a { a { a { a { a { a { a { a { a { a { a { a { a { a { a { a { a { a { a { a { a { a { a { a { a { a { a { a { a { a { a { a { b", "syntax 143"),
+    (b"/dts-v1/; / { x: y { }; a { a { a { a { a { a { a { a { a { a { a { a { a { a { a { a { a { a { a { a { a { a { a { a { a { a { a { a { a { a { a { a { x: b { ", "twolabels 152"),
+    (b"/dts-v1/; / { a { a { a { a { a { a { a { a { a { a { a { a { a { a { a { a { a { a { a { a { a { a { a { a { a { a { a { a { a { a { a { a { b; ", "syntax 145"),
+    (b"/dts-v1/;", "ok"),
+    (b"/dts-v1/; / { };", "ok"),
+    (b"/dts-v1/; / { }; / { };", "ok"),
+    (b"/dts-v1/; / { a { }; b { }; a { c { }; }; };", "ok"),
+    (b"/dts-v1/; / { a { }; }; / { b { a { }; }; };", "ok"),
+    (b"/dts-v1/; / { a { x: b { }; }; c { }; }; &x { d { }; };", "ok"),
+    (b"/dts-v1/; / { x: y: a@1 { }; x: a@1 { }; };", "ok"),
+    (b"/dts-v1/; / { a = <&x>; _9: x: b { }; };", "ok"),
+    (b"/dts-v1/; / { a = <1>; #include ; };", "ok"),
+    (b"/dts-v1/; / { a; a { a; a { }; }; };", "ok"),
+    (b"/dts-v1/; / { a { }; b; c { }; d = <1>; }; // x", "ok"),
+    (b"/dts-v1/; / { a = <>, [], [00 fF], \"\", <0x1 &x>, &x; x: a,b { }; };", "ok"),
+];
+
+#[test]
+fn each_rule_at_both_edges(rt: HostRuntime) -> Result<(), Fail> {
+    for (text, expected) in TABLE {
+        let line = shown(rt.alloc(), text)?;
+        assert_eq!(rt; line.as_str(), expected);
+    }
+    Ok(())
+}
