@@ -6,6 +6,7 @@ mod names;
 mod nodes;
 mod order;
 mod outline;
+mod parser;
 mod place;
 mod reader;
 mod said;
@@ -20,6 +21,7 @@ mod turn;
 mod value;
 
 pub use fault::TreeFault;
+pub use parser::parse;
 pub use tree::Tree;
 
 #[cfg(test)]
