@@ -15,8 +15,8 @@ mod setting;
 mod settled;
 mod step;
 mod symbol;
-mod tree;
 mod text_reading;
+mod tree;
 mod turn;
 mod value;
 
