@@ -1,6 +1,7 @@
 //! Reads the tokens of a devicetree text into its tree, or names the first fault.
 #![tactic(auto)]
 
+mod cell;
 mod fault;
 mod names;
 mod nodes;
@@ -15,10 +16,12 @@ mod settled;
 mod step;
 mod symbol;
 mod tree;
+mod tree_values;
 mod text_reading;
 mod turn;
 mod value;
 
+pub use cell::Cell;
 pub use fault::TreeFault;
 pub use tree::Tree;
 
