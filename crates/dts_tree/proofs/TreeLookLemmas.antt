@@ -1,6 +1,7 @@
 -- Values and labels of a tree that is kept with numbers.
-use Rattle.std.proofs.Common.{◌≡◌, ℕ, zero, suc, ◌+◌, ◌<◌, ◌≤◌, List, [], ◌∷◌, ◌++◌, Bool, true, false, ◌&&◌, cond, Option, Some, None, length, map, get_or, nat_eq, refl, sym, ap, ◌∙◌, subst, arith}
+use Rattle.std.proofs.Common.{◌≡◌, ℕ, zero, suc, ◌+◌, ◌<◌, ◌≤◌, List, [], ◌∷◌, ◌++◌, Bool, true, false, ◌&&◌, cond, Option, Some, None, length, map, fold, get_or, nat_eq, refl, sym, ap, ◌∙◌, subst, arith}
 use Rattle.std.specs.Prelude.{slice_range}
+use Rattle.std.proofs.lemmas.List.{length-map}
 use Rattle.std.specs.List.{position, position_or_len}
 use Rattle.std.proofs.lemmas.Bool.{lt-ltb, le-ltb}
 use Rattle.std.proofs.lemmas.List.Sums.{position_or_len_is}
@@ -11,8 +12,11 @@ use Rattle.std.specs.Cmp.Lexicographic.{pointwise}
 use Rattle.dts_lex.specs.declared.token.Token.{Token}
 use Rattle.dts_tree.specs.Names.{name_of, name_at, token_at, first_with, known_before}
 use Rattle.dts_tree.specs.Path.{number_of}
-use Rattle.dts_tree.specs.Reader.{AllBelow, path_at}
-use Rattle.dts_tree.specs.Settled.{same_property}
+use Rattle.dts_tree.specs.Reader.{AllBelow, path_at, node_of}
+use Rattle.dts_tree.specs.declared.setting.Setting.{Setting}
+use Rattle.dts_tree.specs.declared.setting.Setting.TheVariants.{Opens, Sets}
+use Rattle.indexmap.specs.IndexMap.{insert_entry}
+use Rattle.dts_tree.specs.Settled.{same_property, with_value}
 use Rattle.dts_tree.specs.Tree.{DeviceTree, kept_tree, kept_value, kept_label, with_tokens, value_in}
 use Rattle.dts_tree.specs.TreeValues.{node_of_label, node_among}
 use Rattle.dts_tree.proofs.NamesLemmas.{names_tell, name_found, name_missing}
@@ -35,6 +39,9 @@ module _ (text : List ℕ) (tokens : List Token) (nodes : List (List ℕ)) (orde
   tree-values : tree.values ≡ map (λ v. with_tokens tokens (kept_value (name_at text tokens) nodes v)) values
   unfolding kept_tree
   tree-values = sym (ap (λ t. t.values) is)
+
+  pub tree-value-count : length values ≡ length tree.values
+  tree-value-count = sym (length-map values (λ v. with_tokens tokens (kept_value (name_at text tokens) nodes v))) ∙ ap length (sym tree-values)
 
   tree-labels : tree.labels ≡ map (kept_label (name_at text tokens) nodes) labels
   unfolding kept_tree
@@ -127,3 +134,18 @@ pub position_none : {X : Type 0} (p : X → Bool) (xs : List X) (i : ℕ) (d : X
 position_none p xs i d all before =
     let first : position_or_len p xs ≡ i = position_or_len_is p xs i d (omega arith) before (λ inside. absurd (omega arith)) in
     rw (first, le-ltb i (length xs) (omega arith)) refl
+
+-- the nodes of values are those of settings
+
+below_insert : (n : ℕ) (vs : List ((ℕ × ℕ) × (ℕ × ℕ))) (key value : ℕ × ℕ) → AllBelow n (map (λ v. v.0.0) vs) → key.0 < n → AllBelow n (map (λ v. v.0.0) (insert_entry (same_property nat_eq nat_eq) vs key value))
+below_insert n [] key value below inside = (inside, tt)
+below_insert n (v ∷ vs) key value below inside =
+    elim (same_property nat_eq nat_eq key v.0) as (λ (b : Bool). AllBelow n (map (λ (w : (ℕ × ℕ) × (ℕ × ℕ)). w.0.0) (cond b ((v.0, value) ∷ vs) (v ∷ insert_entry (same_property nat_eq nat_eq) vs key value)))) [
+      | true ↦ below
+      | false ↦ (below.0, below_insert n vs key value below.1 inside)
+    ]
+
+pub below_values : (n : ℕ) (settings : List (Setting ℕ ℕ)) (vs : List ((ℕ × ℕ) × (ℕ × ℕ))) → AllBelow n (map (λ v. v.0.0) vs) → AllBelow n (map node_of settings) → AllBelow n (map (λ v. v.0.0) (fold (with_value nat_eq nat_eq) vs settings))
+below_values n [] vs below inside = below
+below_values n (Opens node at ∷ ss) vs below inside = below_values n ss vs below inside.1
+below_values n (Sets node name from to ∷ ss) vs below inside = below_values n ss (insert_entry (same_property nat_eq nat_eq) vs (node, name) (from, to)) (below_insert n vs (node, name) (from, to) below inside.0) inside.1

@@ -52,6 +52,10 @@ parent_among nodes (name ∷ path) = Some (number_of bytes_eq nodes path)
 abbrev pub value_in : DeviceTree → ℕ → List ℕ → Option (List Token)
 value_in t node name = lookup (same_property (pointwise bytes_eq) bytes_eq (slice_index_or t.nodes node [], name)) t.values
 
+-- the names of nodes are told by the tokens that have them
+abbrev pub AreNamed : List ℕ → List Token → List (List ℕ) → Type 0
+AreNamed text tokens nodes = (k name : ℕ) (path : List ℕ) → path_at nodes k ≡ name ∷ path → (name < length tokens) × (name_at text tokens name ≡ name_of text (token_at tokens name))
+
 -- names are told by numbers that are theirs, and nodes stand in the order at their ranks
 pub record Settled (text : List ℕ) (tokens : List Token) (nodes : List (List ℕ)) (order ranks places : List ℕ) (labels : List (ℕ × ℕ)) (values : List ((ℕ × ℕ) × (ℕ × ℕ))) (find : List ℕ → Option ℕ) : Type 0 where
   pub few : length order < 2 ^ 32
@@ -64,8 +68,7 @@ pub record Settled (text : List ℕ) (tokens : List Token) (nodes : List (List �
   pub found : (name : List ℕ) → find name ≡ known_before (first_with text tokens name) (length tokens)
   pub values_below : AllBelow (length nodes) (map (λ v. v.0.0) values)
   pub labels_below : AllBelow (length nodes) (map (λ l. l.1) labels)
-  pub named : (k name : ℕ) (path : List ℕ) → path_at nodes k ≡ name ∷ path → name_at text tokens name ≡ name_of text (token_at tokens name)
-  pub known : (k name : ℕ) (path : List ℕ) → path_at nodes k ≡ name ∷ path → name < length tokens
+  pub named : AreNamed text tokens nodes
 
 -- the name and the path of a node in place of their numbers
 abbrev pub kept_value : (ℕ → List ℕ) → List (List ℕ) → (ℕ × ℕ) × (ℕ × ℕ) → (List (List ℕ) × List ℕ) × (ℕ × ℕ)

@@ -7,6 +7,7 @@ mod names;
 mod nodes;
 mod order;
 mod outline;
+mod parser;
 mod place;
 mod reader;
 mod said;
@@ -23,6 +24,7 @@ mod value;
 
 pub use cell::Cell;
 pub use fault::TreeFault;
+pub use parser::parse;
 pub use tree::Tree;
 
 #[cfg(test)]

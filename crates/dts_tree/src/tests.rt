@@ -1,4 +1,4 @@
-use crate::TreeFault;
+use crate::{Cell, Tree, TreeFault, parse};
 use dts_lex::lex;
 use std::alloc::{AllocError, Global};
 use std::test::Fail;
@@ -14,8 +14,12 @@ fn shown(alloc: Global, text: &[u8]) -> Result<String, AllocError> {
         return Ok(line);
     };
     let tokens = found.as_slice();
-    match crate::text_reading::reading_of(alloc, text, tokens) {
-        Ok(_) => write!(line, "ok")?,
+    match parse(alloc, text, tokens) {
+        Ok(tree) => {
+            for node in 0..tree.count() {
+                write_node(&mut line, &tree, node)?;
+            }
+        }
         Err(TreeFault::Syntax(at)) => write!(line, "syntax {at}")?,
         Err(TreeFault::NoLabel(at)) => write!(line, "nolabel {at}")?,
         Err(TreeFault::TwoLabels(at)) => write!(line, "twolabels {at}")?,
@@ -120,18 +124,18 @@ const TABLE: [(&[u8], &str); 105] = [
     (b"/dts-v1/; / { a { a { a { a { a { a { a { a { a { a { a { a { a { a { a { a { a { a { a { a { a { a { a { a { a { a { a { a { a { a { a { a { b", "syntax 143"),
     (b"/dts-v1/; / { x: y { }; a { a { a { a { a { a { a { a { a { a { a { a { a { a { a { a { a { a { a { a { a { a { a { a { a { a { a { a { a { a { a { a { x: b { ", "twolabels 152"),
     (b"/dts-v1/; / { a { a { a { a { a { a { a { a { a { a { a { a { a { a { a { a { a { a { a { a { a { a { a { a { a { a { a { a { a { a { a { a { b; ", "syntax 145"),
-    (b"/dts-v1/;", "ok"),
-    (b"/dts-v1/; / { };", "ok"),
-    (b"/dts-v1/; / { }; / { };", "ok"),
-    (b"/dts-v1/; / { a { }; b { }; a { c { }; }; };", "ok"),
-    (b"/dts-v1/; / { a { }; }; / { b { a { }; }; };", "ok"),
-    (b"/dts-v1/; / { a { x: b { }; }; c { }; }; &x { d { }; };", "ok"),
-    (b"/dts-v1/; / { x: y: a@1 { }; x: a@1 { }; };", "ok"),
-    (b"/dts-v1/; / { a = <&x>; _9: x: b { }; };", "ok"),
-    (b"/dts-v1/; / { a = <1>; #include ; };", "ok"),
-    (b"/dts-v1/; / { a; a { a; a { }; }; };", "ok"),
-    (b"/dts-v1/; / { a { }; b; c { }; d = <1>; }; // x", "ok"),
-    (b"/dts-v1/; / { a = <>, [], [00 fF], \"\", <0x1 &x>, &x; x: a,b { }; };", "ok"),
+    (b"/dts-v1/;", "@0^- "),
+    (b"/dts-v1/; / { };", "@10^- "),
+    (b"/dts-v1/; / { }; / { };", "@10^- "),
+    (b"/dts-v1/; / { a { }; b { }; a { c { }; }; };", "@10^- a@14^0 c@32^1 b@21^0 "),
+    (b"/dts-v1/; / { a { }; }; / { b { a { }; }; };", "@10^- a@14^0 b@28^0 a@32^2 "),
+    (b"/dts-v1/; / { a { x: b { }; }; c { }; }; &x { d { }; };", "@10^- a@14^0 b@21^1 d@46^2 c@31^0 "),
+    (b"/dts-v1/; / { x: y: a@1 { }; x: a@1 { }; };", "@10^- a@1@20^0 "),
+    (b"/dts-v1/; / { a = <&x>; _9: x: b { }; };", "@10^- b@31^0 "),
+    (b"/dts-v1/; / { a = <1>; #include ; };", "@10^- "),
+    (b"/dts-v1/; / { a; a { a; a { }; }; };", "@10^- a@17^0 a@24^1 "),
+    (b"/dts-v1/; / { a { }; b; c { }; d = <1>; }; // x", "@10^- a@14^0 c@24^0 "),
+    (b"/dts-v1/; / { a = <>, [], [00 fF], \"\", <0x1 &x>, &x; x: a,b { }; };", "@10^- a,b@56^0 "),
 ];
 
 #[test]

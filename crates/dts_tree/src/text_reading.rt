@@ -6,6 +6,7 @@ ghost use Rattle.dts_lex.specs.Lex.{SpansRise};
 ghost use Rattle.dts_tree.specs.Names.{first_with, known_before};
 ghost use Rattle.dts_tree.specs.Reader.{Standing};
 ghost use Rattle.dts_tree.specs.TextReading.{IsOutcome, reading_in, tree_fault};
+ghost use Rattle.dts_tree.specs.Tree.{AreNamed};
 
 use crate::fault::TreeFault;
 use crate::names::{Names, names_of};
@@ -32,6 +33,7 @@ pub(crate) fn reading_of(
     requires spans { SpansRise 0 (length text.now) tokens.now }
     ensures ok { IfOk result (λ r. IsOutcome text.now tokens.now (Ok (reading_in text.now tokens.now r.reader))) }
     ensures standing { IfOk result (λ r. Standing r.reader) }
+    ensures named { IfOk result (λ r. AreNamed text.now tokens.now r.reader.nodes) }
     ensures firsts { IfOk result (λ r. (q : List ℕ)
         → get_by (λ k. slice_cmp nat_cmp q k.items) r.names.firsts ≡ known_before (first_with text.now tokens.now q) (length tokens.now)) }
     ensures fault { IfErr result (λ fault. fault ≢ TreeFault.Memory → IsOutcome text.now tokens.now (Err fault)) }

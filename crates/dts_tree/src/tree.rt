@@ -1,11 +1,19 @@
-ghost use Rattle.std.specs.Prelude.{◌≡◌, ◌<◌, ◌≤◌, ◌^◌, [], length, slice_index, slice_index_or, slice_range};
+ghost use Rattle.std.specs.Prelude.{◌≡◌, ◌<◌, ◌≤◌, ◌^◌, ℕ, List, [], length, slice_index, slice_index_or, slice_range, IfOk, IfErr};
+ghost use Rattle.std.specs.BTreeMap.{get_by};
+ghost use Rattle.std.specs.Cmp.Lexicographic.{slice_cmp};
+ghost use Rattle.std.specs.Ordering.{nat_cmp};
+ghost use Rattle.dts_tree.specs.Names.{first_with, known_before};
 ghost use Rattle.dts_tree.specs.Tree.{own_name, parent_among};
 
+use crate::fault::TreeFault;
 use crate::names::name_of;
 use crate::nodes::Nodes;
+use crate::reader::Reader;
+use crate::settled::{order_of, places_of, ranks_of, values_of};
 use dts_lex::Token;
 use indexmap::IndexMap;
 use item_list::Items;
+use std::alloc::{AllocError, Global};
 use std::collections::BTreeMap;
 use std::marker::Model;
 
@@ -41,11 +49,69 @@ impl Model for Tree {
 }
 
 impl Tree {
+    ghost use Rattle.dts_tree.specs.Reader.{Standing};
+    ghost use Rattle.dts_tree.specs.TextReading.{reading_in};
+    ghost use Rattle.dts_tree.specs.Tree.{tree_of, AreNamed};
+
+    /// The tree of what was read of a text.
+    pub(crate) fn of_reader(
+        alloc: Global,
+        text: &[u8],
+        tokens: &[Token],
+        reader: Reader,
+        firsts: BTreeMap<Vec<u8>, u32>,
+    ) -> Result<Tree, TreeFault>
+        requires standing { Standing reader }
+        requires firsts { (q : List ℕ) → get_by (λ k. slice_cmp nat_cmp q k.items) firsts ≡ known_before (first_with text.now tokens.now q) (length tokens.now) }
+        requires named { AreNamed text.now tokens.now reader.nodes }
+        ensures tree { IfOk result (λ tree. tree ≡ tree_of text.now tokens.now (reading_in text.now tokens.now reader)) }
+        ensures fault { IfErr result (λ fault. fault ≡ TreeFault.Memory) }
+    {
+        let Reader {
+            nodes,
+            labels,
+            settings,
+            ..
+        } = reader;
+        let count = nodes.len();
+        // A text that is short enough for its places has fewer nodes.
+        if count > u32::MAX as usize {
+            return Err(TreeFault::Memory);
+        }
+        let order = order_of(alloc, &nodes)?;
+        if order.len() > u32::MAX as usize {
+            return Err(TreeFault::Memory);
+        }
+        let ranks = ranks_of(alloc, order.as_slice(), count)?;
+        let places = places_of(alloc, settings.as_slice(), count)?;
+        let values = values_of(alloc, settings.as_slice())?;
+        let text = copied(alloc, text)?;
+        let tokens = copied(alloc, tokens)?;
+        Ok(Tree {
+            text,
+            tokens,
+            nodes,
+            order: Items::from_vec(order),
+            ranks: Items::from_vec(ranks),
+            places: Items::from_vec(places),
+            labels,
+            values,
+            firsts,
+        })
+    }
+
     /// How many nodes there are.
     pub fn count(&self) -> u32
         ensures { result ≡ length self.now.nodes }
     {
         self.order.len() as u32
+    }
+
+    /// How many properties the nodes have.
+    pub fn property_count(&self) -> usize
+        ensures { result ≡ length self.now.values }
+    {
+        self.values.len()
     }
 
     /// The name of a node.
@@ -135,4 +201,14 @@ fn tokens_between(tokens: &[Token], from: u32, to: u32) -> &[Token]
     let to = (to as usize).min(tokens.len());
     let from = (from as usize).min(to);
     &tokens[from..to]
+}
+
+fn copied<T: Copy + Drop>(alloc: Global, items: &[T]) -> Result<Items<T>, AllocError>
+    ensures { IfOk result (λ copy. copy ≡ items.now) }
+{
+    let mut copy = Items::new(alloc);
+    for item in items {
+        copy.push(*item)?;
+    }
+    Ok(copy)
 }

@@ -7,7 +7,7 @@ use Rattle.dts_tree.specs.Reader.{reading}
 use Rattle.dts_tree.specs.Reading.{nothing_read, walked}
 use Rattle.dts_tree.specs.Saying.{said_with}
 use Rattle.dts_tree.proofs.OutlineLemmas.{SpansRise-count}
-use Rattle.dts_tree.proofs.TextReadingLemmas.{outcome_step, outcome_grammar, outcome_label, outcome_read}
+use Rattle.dts_tree.proofs.TextReadingLemmas.{outcome_step, outcome_grammar, outcome_label, outcome_read, nodes_named}
 use Rattle.dts_tree.proofs.text_reading.reading_of.Goals as goal
 
 pub names_of-requires : goal.names_of-requires
@@ -50,3 +50,9 @@ returns-clause-ok c =
     let unknown = rw c.as_slice-5.ensures at (c.in-None.ensures c.args.text.now (c.as_slice-4.ensures ∙ c.in_ok-names.ensures.numbers)) in
     outcome_read c.args.text.now c.args.tokens.now (λ i. omega (arith, c.type_inv.text i)) c.in_ok-outline.outline.steps c.in_ok-outline.ensures.within c.in_ok-reader.reader (ap (walked nat_eq nothing_read) (sym tied) ∙ c.in_ok-reader.ensures.ok)
     c.in_ok-outline.outline.fault c.in_ok-outline.ensures.outline c.in_default.is unknown
+
+pub returns-clause-named : goal.returns-clause-named
+returns-clause-named c =
+    let said = c.in_ok-said.ensures c.args.text.now (c.as_slice.ensures ∙ c.in_ok-names.ensures.numbers) in
+    let tied : c.as_slice-3.result.now ≡ map (said_with (number_in c.args.text.now c.args.tokens.now) c.args.tokens.now) c.in_ok-outline.outline.steps = c.as_slice-3.ensures.value ∙ said ∙ ap (map (said_with (number_in c.args.text.now c.args.tokens.now) c.args.tokens.now)) c.as_slice-2.ensures in
+    nodes_named c.args.text.now c.args.tokens.now c.in_ok-outline.outline.steps c.in_ok-reader.reader c.in_ok-outline.ensures.within (ap (walked nat_eq nothing_read) (sym tied) ∙ c.in_ok-reader.ensures.ok)
