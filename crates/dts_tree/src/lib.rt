@@ -16,9 +16,9 @@ mod setting;
 mod settled;
 mod step;
 mod symbol;
+mod text_reading;
 mod tree;
 mod tree_values;
-mod text_reading;
 mod turn;
 mod value;
 

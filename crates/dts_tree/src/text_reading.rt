@@ -40,7 +40,12 @@ pub(crate) fn reading_of(
 {
     let outline = outline_of(alloc, text, tokens)?;
     let names = names_of(alloc, text, tokens)?;
-    let said = sayings(alloc, tokens, names.numbers.as_slice(), outline.steps.as_slice())?;
+    let said = sayings(
+        alloc,
+        tokens,
+        names.numbers.as_slice(),
+        outline.steps.as_slice(),
+    )?;
     let reader = read(alloc, said.as_slice())?;
     if let Some(fault) = outline.fault {
         return Err(tree_fault(fault));

@@ -1,5 +1,3 @@
-use Rattle.std.proofs.Common.{◌∙◌, ap, sym}
-use Rattle.dts_tree.specs.Tree.{tree_of}
 use Rattle.std.proofs.lemmas.Result.{IfOk-weaker}
 use Rattle.dts_tree.specs.TextReading.{reading_in}
 use Rattle.dts_tree.proofs.parser.parse.Goals as goal
@@ -9,4 +7,4 @@ reading_of-requires-clause-spans c = c.spans_rise.ensures c.args.text.now c.args
 
 pub returns-clause-tree : goal.returns-clause-tree
 returns-clause-tree c =
-    IfOk-weaker c.of_reader.result _ _ (λ tree is. (reading_in c.args.text.now c.args.tokens.now c.in_ok-reader.field-0.reader, c.in_ok-reader.ensures.ok, is ∙ ap (λ r. tree_of c.args.text.now c.args.tokens.now (reading_in c.args.text.now c.args.tokens.now r)) (sym c.in_ok-reader.reader-is))) c.of_reader.ensures.tree
+    IfOk-weaker c.of_reader.result _ _ (λ tree is. (reading_in c.args.text.now c.args.tokens.now c.in_ok-read.read.reader, c.in_ok-read.ensures.ok, is)) c.of_reader.ensures.tree

@@ -28,6 +28,6 @@ pub returns-clause-tree : goal.returns-clause-tree
 returns-clause-tree c =
     let reader = c.args.reader in
     rw (c.from_vec.ensures, c.from_vec-3.ensures, c.in_ok-text.ensures, c.in_ok-tokens.ensures) (settled-tree c.args.text.now c.args.tokens.now reader c.in_ok-order.order.items c.in_ok-places.places.items c.in_ok-values.values.entries
-      c.requires.standing (λ i. omega (arith, c.type_inv.text i)) c.len-count.ensures.apart c.in_ok-order.ensures.order c.in_ok-order.ensures.inside
-      (λ k in_k. c.in_ok-places.ensures.places k (rw c.len-count.ensures.len in_k) ∙ ap (first_place (nat_eq k)) c.as_slice-2.ensures.value)
-      (c.in_ok-values.ensures ∙ ap (values_of nat_eq nat_eq) c.as_slice-3.ensures.value))
+    c.requires.standing (λ i. omega (arith, c.type_inv.text i)) c.len-count.ensures.apart c.in_ok-order.ensures.order c.in_ok-order.ensures.inside
+    (λ k in_k. c.in_ok-places.ensures.places k (rw c.len-count.ensures.len in_k) ∙ ap (first_place (nat_eq k)) c.as_slice-2.ensures.value)
+    (c.in_ok-values.ensures ∙ ap (values_of nat_eq nat_eq) c.as_slice-3.ensures.value))
