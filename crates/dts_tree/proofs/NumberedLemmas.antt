@@ -34,9 +34,9 @@ pushed_both : {X Y : Type 0} (p : X → Bool) (q : Y → Bool) (xs : List X) (ys
 pushed_both p q xs ys x y long same here =
     rw (position_or_len_push p xs x, position_or_len_push q ys y, here, same)
     (⊎_elim
-      (λ e. rw (cond-true _ (length xs + cond (q y) 0 1) (1 + position_or_len q ys) (eq-eqb (1 + position_or_len q ys) (length xs) (omega (arith, e))), cond-true _ (length ys + cond (q y) 0 1) (position_or_len q ys) (eq-eqb _ _ e)) (omega arith))
-      (λ n. rw (cond-false _ (length xs + cond (q y) 0 1) (1 + position_or_len q ys) (ne_eqb (1 + position_or_len q ys) (length xs) (λ e. n (omega (arith, e)))), cond-false _ (length ys + cond (q y) 0 1) (position_or_len q ys) (ne_eqb _ _ n)) refl)
-      (cases_eq (position_or_len q ys) (length ys)))
+    (λ e. rw (cond-true _ (length xs + cond (q y) 0 1) (1 + position_or_len q ys) (eq-eqb (1 + position_or_len q ys) (length xs) (omega (arith, e))), cond-true _ (length ys + cond (q y) 0 1) (position_or_len q ys) (eq-eqb _ _ e)) (omega arith))
+    (λ n. rw (cond-false _ (length xs + cond (q y) 0 1) (1 + position_or_len q ys) (ne_eqb (1 + position_or_len q ys) (length xs) (λ e. n (omega (arith, e)))), cond-false _ (length ys + cond (q y) 0 1) (position_or_len q ys) (ne_eqb _ _ n)) refl)
+    (cases_eq (position_or_len q ys) (length ys)))
 
 -- ---- equal paths
 path_eq-refl : (p : List ℕ) → pointwise nat_eq p p ≡ true
@@ -52,9 +52,9 @@ module _ (keys : List (ℕ × ℕ)) (paths : List (List ℕ)) (h : Paths keys pa
   pub path_eq-numbers : (p r : ℕ) → p < length paths → r < length paths → pointwise nat_eq (get_or paths p []) (get_or paths r []) ≡ nat_eq p r
   path_eq-numbers p r in_p in_r =
       ⊎_elim
-        (λ e. subst (λ (s : ℕ). pointwise nat_eq (get_or paths p []) (get_or paths s []) ≡ nat_eq p s) e (path_eq-refl (get_or paths p []) ∙ sym (eq-eqb p p refl)))
-        (λ n. path_eq-ne _ _ (λ e. n (sym (h.distinct p in_p) ∙ (ap (number_of nat_eq paths) e ∙ h.distinct r in_r))) ∙ sym (ne_eqb p r n))
-        (cases_eq p r)
+      (λ e. subst (λ (s : ℕ). pointwise nat_eq (get_or paths p []) (get_or paths s []) ≡ nat_eq p s) e (path_eq-refl (get_or paths p []) ∙ sym (eq-eqb p p refl)))
+      (λ n. path_eq-ne _ _ (λ e. n (sym (h.distinct p in_p) ∙ (ap (number_of nat_eq paths) e ∙ h.distinct r in_r))) ∙ sym (ne_eqb p r n))
+      (cases_eq p r)
 
   and_flip : (a b : Bool) → (a && b) ≡ (b && a)
   and_flip true true = refl
@@ -72,68 +72,68 @@ module _ (keys : List (ℕ × ℕ)) (paths : List (List ℕ)) (h : Paths keys pa
     push_earlier : (j : ℕ) → j < length (keys ++ k ∷ []) → (get_or (keys ++ k ∷ []) j (0, 0)).0 ≤ j
     push_earlier j in_j =
         ⊎_elim
-          (λ old. rw (get_or_append_left keys (k ∷ []) (0, 0) j old) (h.earlier j old))
-          (λ past. rw (get_or_push keys k (0, 0) j (omega (arith, length_push keys k))) (omega (arith, length_push keys k, h.each)))
-          (cases_lt j (length keys))
+        (λ old. rw (get_or_append_left keys (k ∷ []) (0, 0) j old) (h.earlier j old))
+        (λ past. rw (get_or_push keys k (0, 0) j (omega (arith, length_push keys k))) (omega (arith, length_push keys k, h.each)))
+        (cases_lt j (length keys))
 
     push_child : (j : ℕ) → j < length (keys ++ k ∷ []) → get_or (paths ++ (k.1 ∷ get_or paths k.0 []) ∷ []) (j + 1) [] ≡ (get_or (keys ++ k ∷ []) j (0, 0)).1 ∷ get_or (paths ++ (k.1 ∷ get_or paths k.0 []) ∷ []) (get_or (keys ++ k ∷ []) j (0, 0)).0 []
     push_child j in_j =
         ⊎_elim
-          (λ old.
-            let parent : (get_or keys j (0, 0)).0 < length paths = omega (arith, h.earlier j old, h.each, old) in
-            let next : j + 1 < length paths = omega (arith, old, h.each) in
-            rw (get_or_append_left keys (k ∷ []) (0, 0) j old)
-            (get_or_append_left paths ((k.1 ∷ get_or paths k.0 []) ∷ []) [] (j + 1) next
-            ∙ (h.child j old
-            ∙ ap (λ q. (get_or keys j (0, 0)).1 ∷ q) (sym (get_or_append_left paths ((k.1 ∷ get_or paths k.0 []) ∷ []) [] (get_or keys j (0, 0)).0 parent)))))
-          (λ past.
-            let last : length keys ≡ j = omega (arith, past, in_j, length_push keys k) in
-            let next : length paths ≡ j + 1 = omega (arith, last, h.each) in
-            rw (get_or_push keys k (0, 0) j last)
-            (get_or_push paths (k.1 ∷ get_or paths k.0 []) [] (j + 1) next
-            ∙ ap (λ q. k.1 ∷ q) (sym (get_or_append_left paths ((k.1 ∷ get_or paths k.0 []) ∷ []) [] k.0 inside))))
-          (cases_lt j (length keys))
+        (λ old.
+        let parent : (get_or keys j (0, 0)).0 < length paths = omega (arith, h.earlier j old, h.each, old) in
+        let next : j + 1 < length paths = omega (arith, old, h.each) in
+        rw (get_or_append_left keys (k ∷ []) (0, 0) j old)
+        (get_or_append_left paths ((k.1 ∷ get_or paths k.0 []) ∷ []) [] (j + 1) next
+        ∙ (h.child j old
+        ∙ ap (λ q. (get_or keys j (0, 0)).1 ∷ q) (sym (get_or_append_left paths ((k.1 ∷ get_or paths k.0 []) ∷ []) [] (get_or keys j (0, 0)).0 parent)))))
+        (λ past.
+        let last : length keys ≡ j = omega (arith, past, in_j, length_push keys k) in
+        let next : length paths ≡ j + 1 = omega (arith, last, h.each) in
+        rw (get_or_push keys k (0, 0) j last)
+        (get_or_push paths (k.1 ∷ get_or paths k.0 []) [] (j + 1) next
+        ∙ ap (λ q. k.1 ∷ q) (sym (get_or_append_left paths ((k.1 ∷ get_or paths k.0 []) ∷ []) [] k.0 inside))))
+        (cases_lt j (length keys))
 
     push_found : (p n : ℕ) → p < length (paths ++ (k.1 ∷ get_or paths k.0 []) ∷ []) → number_of nat_eq (paths ++ (k.1 ∷ get_or paths k.0 []) ∷ []) (n ∷ get_or (paths ++ (k.1 ∷ get_or paths k.0 []) ∷ []) p []) ≡ 1 + position_or_len (same_key (p, n)) (keys ++ k ∷ [])
     push_found p n in_p =
         ⊎_elim
-          (λ old.
-            rw (get_or_append_left paths ((k.1 ∷ get_or paths k.0 []) ∷ []) [] p old)
-            (pushed_both (pointwise nat_eq (n ∷ get_or paths p [])) (same_key (p, n)) paths keys (k.1 ∷ get_or paths k.0 []) k h.each (h.found p n old)
-              (ap (λ b. nat_eq n k.1 && b) (path_eq-numbers p k.0 old inside) ∙ and_flip (nat_eq n k.1) (nat_eq p k.0))))
-          (λ past.
-            let is : length paths ≡ p = omega (arith, length_push paths (k.1 ∷ get_or paths k.0 [])) in
-            rw (get_or_push paths (k.1 ∷ get_or paths k.0 []) [] p is)
-            (pushed_both (pointwise nat_eq (n ∷ k.1 ∷ get_or paths k.0 [])) (same_key (p, n)) paths keys (k.1 ∷ get_or paths k.0 []) k h.each
-              (h.closed n (k.1 ∷ get_or paths k.0 []) absent ∙ (h.each ∙ ap (λ m. 1 + m) (sym (position_or_len_is (same_key (p, n)) keys (length keys) (0, 0) (omega arith)
-                (λ j in_j. and_left _ _ (ne_eqb p _ (λ e. omega (arith, e, h.earlier j in_j, h.each))))
-                (λ more. absurd (omega (arith, more)))))))
-              (path_eq-child n (k.1 ∷ get_or paths k.0 []) ∙ sym (and_left (nat_eq p k.0) (nat_eq n k.1) (ne_eqb p k.0 (λ e. omega (arith, e)))))))
-          (cases_lt p (length paths))
+        (λ old.
+        rw (get_or_append_left paths ((k.1 ∷ get_or paths k.0 []) ∷ []) [] p old)
+        (pushed_both (pointwise nat_eq (n ∷ get_or paths p [])) (same_key (p, n)) paths keys (k.1 ∷ get_or paths k.0 []) k h.each (h.found p n old)
+        (ap (λ b. nat_eq n k.1 && b) (path_eq-numbers p k.0 old inside) ∙ and_flip (nat_eq n k.1) (nat_eq p k.0))))
+        (λ past.
+        let is : length paths ≡ p = omega (arith, length_push paths (k.1 ∷ get_or paths k.0 [])) in
+        rw (get_or_push paths (k.1 ∷ get_or paths k.0 []) [] p is)
+        (pushed_both (pointwise nat_eq (n ∷ k.1 ∷ get_or paths k.0 [])) (same_key (p, n)) paths keys (k.1 ∷ get_or paths k.0 []) k h.each
+        (h.closed n (k.1 ∷ get_or paths k.0 []) absent ∙ (h.each ∙ ap (λ m. 1 + m) (sym (position_or_len_is (same_key (p, n)) keys (length keys) (0, 0) (omega arith)
+        (λ j in_j. and_left _ _ (ne_eqb p _ (λ e. omega (arith, e, h.earlier j in_j, h.each))))
+        (λ more. absurd (omega (arith, more)))))))
+        (path_eq-child n (k.1 ∷ get_or paths k.0 []) ∙ sym (and_left (nat_eq p k.0) (nat_eq n k.1) (ne_eqb p k.0 (λ e. omega (arith, e)))))))
+        (cases_lt p (length paths))
 
     push_distinct : (j : ℕ) → j < length (paths ++ (k.1 ∷ get_or paths k.0 []) ∷ []) → number_of nat_eq (paths ++ (k.1 ∷ get_or paths k.0 []) ∷ []) (get_or (paths ++ (k.1 ∷ get_or paths k.0 []) ∷ []) j []) ≡ j
     push_distinct j in_j =
         ⊎_elim
-          (λ old. rw (get_or_append_left paths ((k.1 ∷ get_or paths k.0 []) ∷ []) [] j old)
-            (pushed_old (pointwise nat_eq (get_or paths j [])) paths (k.1 ∷ get_or paths k.0 []) (rw (h.distinct j old) old) ∙ h.distinct j old))
-          (λ past.
-            let is : length paths ≡ j = omega (arith, length_push paths (k.1 ∷ get_or paths k.0 [])) in
-            rw (get_or_push paths (k.1 ∷ get_or paths k.0 []) [] j is)
-            (pushed_new (pointwise nat_eq (k.1 ∷ get_or paths k.0 [])) paths (k.1 ∷ get_or paths k.0 []) absent (path_eq-refl (k.1 ∷ get_or paths k.0 [])) ∙ is))
-          (cases_lt j (length paths))
+        (λ old. rw (get_or_append_left paths ((k.1 ∷ get_or paths k.0 []) ∷ []) [] j old)
+        (pushed_old (pointwise nat_eq (get_or paths j [])) paths (k.1 ∷ get_or paths k.0 []) (rw (h.distinct j old) old) ∙ h.distinct j old))
+        (λ past.
+        let is : length paths ≡ j = omega (arith, length_push paths (k.1 ∷ get_or paths k.0 [])) in
+        rw (get_or_push paths (k.1 ∷ get_or paths k.0 []) [] j is)
+        (pushed_new (pointwise nat_eq (k.1 ∷ get_or paths k.0 [])) paths (k.1 ∷ get_or paths k.0 []) absent (path_eq-refl (k.1 ∷ get_or paths k.0 [])) ∙ is))
+        (cases_lt j (length paths))
 
     push_closed : (n : ℕ) (q : List ℕ) → number_of nat_eq (paths ++ (k.1 ∷ get_or paths k.0 []) ∷ []) q ≡ length (paths ++ (k.1 ∷ get_or paths k.0 []) ∷ []) → number_of nat_eq (paths ++ (k.1 ∷ get_or paths k.0 []) ∷ []) (n ∷ q) ≡ length (paths ++ (k.1 ∷ get_or paths k.0 []) ∷ [])
     push_closed n q none =
         let long = length_push paths (k.1 ∷ get_or paths k.0 []) in
         ⊎_elim
-          (λ old. absurd (omega (arith, old, long, none, pushed_old (pointwise nat_eq q) paths (k.1 ∷ get_or paths k.0 []) old)))
-          (λ past.
-            let gone : number_of nat_eq paths q ≡ length paths = omega (arith, past, prefix_len-le-length (λ x. not (pointwise nat_eq q x)) paths) in
-            let other : pointwise nat_eq (n ∷ q) (k.1 ∷ get_or paths k.0 []) ≡ false =
-              and_right (nat_eq n k.1) (pointwise nat_eq q (get_or paths k.0 [])) (path_eq-ne q (get_or paths k.0 [])
-                (λ e. omega (arith, gone, inside, ap (number_of nat_eq paths) e, h.distinct k.0 inside))) in
-            pushed_none (pointwise nat_eq (n ∷ q)) paths (k.1 ∷ get_or paths k.0 []) (h.closed n q gone) other ∙ sym long)
-          (cases_lt (number_of nat_eq paths q) (length paths))
+        (λ old. absurd (omega (arith, old, long, none, pushed_old (pointwise nat_eq q) paths (k.1 ∷ get_or paths k.0 []) old)))
+        (λ past.
+        let gone : number_of nat_eq paths q ≡ length paths = omega (arith, past, prefix_len-le-length (λ x. not (pointwise nat_eq q x)) paths) in
+        let other : pointwise nat_eq (n ∷ q) (k.1 ∷ get_or paths k.0 []) ≡ false =
+        and_right (nat_eq n k.1) (pointwise nat_eq q (get_or paths k.0 [])) (path_eq-ne q (get_or paths k.0 [])
+        (λ e. omega (arith, gone, inside, ap (number_of nat_eq paths) e, h.distinct k.0 inside))) in
+        pushed_none (pointwise nat_eq (n ∷ q)) paths (k.1 ∷ get_or paths k.0 []) (h.closed n q gone) other ∙ sym long)
+        (cases_lt (number_of nat_eq paths q) (length paths))
 
     pub paths_push : Paths (keys ++ k ∷ []) (paths ++ (k.1 ∷ get_or paths k.0 []) ∷ [])
     paths_push = record {
@@ -165,8 +165,8 @@ none_position p (x ∷ xs) none =
 position_at : {X : Type 0} (p : X → Bool) (xs : List X) (i : ℕ) → position p xs ≡ Some i → position_or_len p xs ≡ i
 position_at p xs i is =
     elim (cases_Bool (nat_lt (position_or_len p xs) (length xs))) [
-      inl within ↦ (let found : Some (position_or_len p xs) ≡ Some i = sym (cond-true _ (Some (position_or_len p xs)) None within) ∙ is in cc)
-    | inr past ↦ (let none : None ≡ Some i = sym (cond-false _ (Some (position_or_len p xs)) None past) ∙ is in cc)
+      | inl within ↦ (let found : Some (position_or_len p xs) ≡ Some i = sym (cond-true _ (Some (position_or_len p xs)) None within) ∙ is in cc)
+      | inr past ↦ (let none : None ≡ Some i = sym (cond-false _ (Some (position_or_len p xs)) None past) ∙ is in cc)
     ]
 
 -- a child that is there

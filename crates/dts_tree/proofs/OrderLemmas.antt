@@ -48,19 +48,19 @@ linked_more parents first next k s low high earlier is h = record {
   firsts = length-set first (get_or parents k 0) (Some k) ∙ h.firsts;
   nexts = length-set next k s ∙ h.nexts;
   child = λ x in_x. ⊎_elim
-    (λ e. ap (λ (y : ℕ). get_or (set first (get_or parents k 0) (Some k)) y None) (sym e)
+      (λ e. ap (λ (y : ℕ). get_or (set first (get_or parents k 0) (Some k)) y None) (sym e)
       ∙ (get_or-set_same first (get_or parents k 0) (Some k) None (rw h.firsts (omega (arith, earlier, high)))
       ∙ sym (ap first_of (children_from-step parents x k high ∙ cond-true _ (k ∷ children_from parents x (k + 1)) (children_from parents x (k + 1)) (eq-eqb (get_or parents k 0) x e)))))
-    (λ n. get_or-set_other first (get_or parents k 0) x (Some k) None (λ e. n (sym e))
+      (λ n. get_or-set_other first (get_or parents k 0) x (Some k) None (λ e. n (sym e))
       ∙ (h.child x in_x ∙ sym (ap first_of (children_from-step parents x k high ∙ cond-false _ (k ∷ children_from parents x (k + 1)) (children_from parents x (k + 1)) (ne_eqb (get_or parents k 0) x n)))))
-    (cases_eq (get_or parents k 0) x);
+      (cases_eq (get_or parents k 0) x);
   sibling = λ j from in_j. ⊎_elim
-    (λ e. ap (λ (i : ℕ). get_or (set next k s) i None) e
+      (λ e. ap (λ (i : ℕ). get_or (set next k s) i None) e
       ∙ (get_or-set_same next k s None (rw h.nexts high)
       ∙ (is ∙ (h.child (get_or parents k 0) (omega (arith, earlier, high))
       ∙ sym (ap first_of (ap (siblings_after parents) e ∙ siblings_after-some parents k low))))))
-    (λ n. get_or-set_other next k j s None n ∙ h.sibling j (omega (arith, n, from)) in_j)
-    (cases_eq j k);
+      (λ n. get_or-set_other next k j s None n ∙ h.sibling j (omega (arith, n, from)) in_j)
+      (cases_eq j k);
   alone = get_or-set_other next k 0 s None (λ e. omega (arith, e, low)) ∙ h.alone;
 }
 
@@ -71,9 +71,9 @@ linked_all parents first next k high low h =
       nexts = h.nexts;
       child = λ x in_x. h.child x in_x ∙ ap (λ i. first_of (children_from parents x i)) one;
       sibling = λ j in_j. ⊎_elim
-        (λ e. ap (λ (i : ℕ). get_or next i None) e ∙ (h.alone ∙ sym (ap first_of (ap (siblings_after parents) e ∙ siblings_after-root parents))))
-        (λ n. h.sibling j (omega (arith, n, high)) in_j)
-        (cases_eq j 0);
+          (λ e. ap (λ (i : ℕ). get_or next i None) e ∙ (h.alone ∙ sym (ap first_of (ap (siblings_after parents) e ∙ siblings_after-root parents))))
+          (λ n. h.sibling j (omega (arith, n, high)) in_j)
+          (cases_eq j 0);
     }
 
 -- ---- what is first among children
@@ -88,19 +88,19 @@ children-split zero parents x k f few is =
     let none : None ≡ Some f = sym (ap first_of (children_from-end parents x k (omega (arith, few)))) ∙ is in absurd (cc)
 children-split (suc m) parents x k f few is =
     ⊎_elim
-      (λ more. ⊎_elim
-        (λ here.
-          let step : children_from parents x k ≡ k ∷ children_from parents x (k + 1) = children_from-step parents x k more ∙ cond-true _ (k ∷ children_from parents x (k + 1)) (children_from parents x (k + 1)) here in
-          let found : Some k ≡ Some f = sym (ap first_of step) ∙ is in
-          let same : k ≡ f = cc in
-          subst (λ (g : ℕ). Split parents x k g) same (record { whole = step; parent = eqb-true (get_or parents k 0) x here; from = omega arith; inside = more }))
-        (λ not_here.
-          let step : children_from parents x k ≡ children_from parents x (k + 1) = children_from-step parents x k more ∙ cond-false _ (k ∷ children_from parents x (k + 1)) (children_from parents x (k + 1)) not_here in
-          let rest : Split parents x (k + 1) f = children-split m parents x (k + 1) f (omega (arith, few)) (sym (ap first_of step) ∙ is) in
-          record { whole = step ∙ rest.whole; parent = rest.parent; from = omega (arith, rest.from); inside = rest.inside })
-        (cases_Bool (nat_eq (get_or parents k 0) x)))
-      (λ past. let none : None ≡ Some f = sym (ap first_of (children_from-end parents x k past)) ∙ is in absurd (cc))
-      (cases_lt k (length parents))
+    (λ more. ⊎_elim
+    (λ here.
+    let step : children_from parents x k ≡ k ∷ children_from parents x (k + 1) = children_from-step parents x k more ∙ cond-true _ (k ∷ children_from parents x (k + 1)) (children_from parents x (k + 1)) here in
+    let found : Some k ≡ Some f = sym (ap first_of step) ∙ is in
+    let same : k ≡ f = cc in
+    subst (λ (g : ℕ). Split parents x k g) same (record { whole = step; parent = eqb-true (get_or parents k 0) x here; from = omega arith; inside = more }))
+    (λ not_here.
+    let step : children_from parents x k ≡ children_from parents x (k + 1) = children_from-step parents x k more ∙ cond-false _ (k ∷ children_from parents x (k + 1)) (children_from parents x (k + 1)) not_here in
+    let rest : Split parents x (k + 1) f = children-split m parents x (k + 1) f (omega (arith, few)) (sym (ap first_of step) ∙ is) in
+    record { whole = step ∙ rest.whole; parent = rest.parent; from = omega (arith, rest.from); inside = rest.inside })
+    (cases_Bool (nat_eq (get_or parents k 0) x)))
+    (λ past. let none : None ≡ Some f = sym (ap first_of (children_from-end parents x k past)) ∙ is in absurd (cc))
+    (cases_lt k (length parents))
 
 pub children-first : (parents : List ℕ) (x k f : ℕ) → first_of (children_from parents x k) ≡ Some f → Split parents x k f
 children-first parents x k f is = children-split (length parents) parents x k f (omega arith) is
@@ -128,14 +128,14 @@ flat_map-children A B p k (suc m) h =
     let xs : List ℕ = range_with_len (k + 1) m in
     let rest : flat_map A (filter p xs) ≡ flat_map B (filter p xs) = flat_map-children A B p (k + 1) m (λ j low high. h j (omega (arith, low)) (omega (arith, high))) in
     ⊎_elim
-      (λ passes.
-        let here : A k ≡ B k = h k (omega arith) (omega arith) passes in
-        ap (flat_map A) (filter-passes p k xs passes)
-        ∙ (ap (λ ys. ys ++ flat_map A (filter p xs)) here
-        ∙ (ap (λ ys. B k ++ ys) rest
-        ∙ sym (ap (flat_map B) (filter-passes p k xs passes)))))
-      (λ fails. ap (flat_map A) (filter-fails p k xs fails) ∙ (rest ∙ sym (ap (flat_map B) (filter-fails p k xs fails))))
-      (cases_Bool (p k))
+    (λ passes.
+    let here : A k ≡ B k = h k (omega arith) (omega arith) passes in
+    ap (flat_map A) (filter-passes p k xs passes)
+    ∙ (ap (λ ys. ys ++ flat_map A (filter p xs)) here
+    ∙ (ap (λ ys. B k ++ ys) rest
+    ∙ sym (ap (flat_map B) (filter-passes p k xs passes)))))
+    (λ fails. ap (flat_map A) (filter-fails p k xs fails) ∙ (rest ∙ sym (ap (flat_map B) (filter-fails p k xs fails))))
+    (cases_Bool (p k))
 
 abbrev pub IsEarlier : List ℕ → Type 0
 IsEarlier parents = (j : ℕ) → 1 ≤ j → j < length parents → get_or parents j 0 < j
@@ -146,7 +146,7 @@ unfolding below children_from
 below-bottom parents earlier zero x few = refl
 below-bottom parents earlier (suc f) x few =
     ap (λ cs. x ∷ flat_map (below f parents) cs) (filter-none (λ j. nat_eq (get_or parents j 0) x) 1 (length parents - 1)
-      (λ j low high. ne_eqb (get_or parents j 0) x (λ e. omega (arith, earlier j low (omega (arith, low, high)), e, few, low, high))))
+    (λ j low high. ne_eqb (get_or parents j 0) x (λ e. omega (arith, earlier j low (omega (arith, low, high)), e, few, low, high))))
 
 -- as many levels serve as there are nodes behind x
 below-levels : (parents : List ℕ) → IsEarlier parents → (f g x : ℕ) → length parents ≤ f + (x + 1) → length parents ≤ g + (x + 1) → below f parents x ≡ below g parents x
@@ -155,10 +155,10 @@ below-levels parents earlier zero g x few_f few_g = sym (below-bottom parents ea
 below-levels parents earlier (suc f) zero x few_f few_g = below-bottom parents earlier (suc f) x (omega (arith, few_g))
 below-levels parents earlier (suc f) (suc g) x few_f few_g =
     ap (λ ys. x ∷ ys) (flat_map-children (below f parents) (below g parents) (λ j. nat_eq (get_or parents j 0) x) 1 (length parents - 1)
-      (λ j low high is.
-        let in_j : j < length parents = omega (arith, low, high) in
-        let higher : x < j = omega (arith, earlier j low in_j, eqb-true (get_or parents j 0) x is) in
-        below-levels parents earlier f g j (omega (arith, few_f, higher)) (omega (arith, few_g, higher))))
+    (λ j low high is.
+    let in_j : j < length parents = omega (arith, low, high) in
+    let higher : x < j = omega (arith, earlier j low in_j, eqb-true (get_or parents j 0) x is) in
+    below-levels parents earlier f g j (omega (arith, few_f, higher)) (omega (arith, few_g, higher))))
 
 -- a node and what is below it
 unfoldable pub block : List ℕ → ℕ → List ℕ
@@ -169,7 +169,7 @@ unfolding below children_from
 block-levels parents x n earlier is =
     ap (λ l. below l parents x) is
     ∙ ap (λ ys. x ∷ ys) (flat_map-children (below n parents) (below (length parents) parents) (λ j. nat_eq (get_or parents j 0) x) 1 (length parents - 1)
-      (λ j low high passes. below-levels parents earlier n (length parents) j (omega (arith, is)) (omega arith)))
+    (λ j low high passes. below-levels parents earlier n (length parents) j (omega (arith, is)) (omega arith)))
 
 pub block-step : (parents : List ℕ) (x : ℕ) → IsEarlier parents → 0 < length parents → block parents x ≡ x ∷ flat_map (block parents) (children_from parents x 1)
 unfolding block
@@ -200,9 +200,9 @@ spread-siblings : (parents : List ℕ) (s : ℕ) (ss : List ℕ) → flat_map (b
 spread-siblings parents s ss =
     let P : List ℕ → Type 0 = λ cs. flat_map (block parents) cs ++ pending parents ss ≡ pending parents (listed (first_of cs) ++ ss) in
     ⊎_elim
-      (λ e. subst P (sym (ap (siblings_after parents) e ∙ siblings_after-root parents)) refl)
-      (λ n. subst P (sym (siblings_after-some parents s (omega (arith, n)))) (spread-children parents (get_or parents s 0) (s + 1) ss (omega arith)))
-      (cases_eq s 0)
+    (λ e. subst P (sym (ap (siblings_after parents) e ∙ siblings_after-root parents)) refl)
+    (λ n. subst P (sym (siblings_after-some parents s (omega (arith, n)))) (spread-children parents (get_or parents s 0) (s + 1) ss (omega arith)))
+    (cases_eq s 0)
 
 -- behind the node that was taken those that wait in its place
 abbrev pub waits_after : List ℕ → ℕ → List ℕ → List ℕ
@@ -214,8 +214,8 @@ pending-step parents s ss earlier some =
     let fs : List ℕ = flat_map (block parents) (siblings_after parents s) in
     ap (λ ys. (ys ++ fs) ++ pending parents ss) (block-step parents s earlier some)
     ∙ ap (λ ys. s ∷ ys) (append_assoc cs fs (pending parents ss)
-      ∙ (ap (λ ys. cs ++ ys) (spread-siblings parents s ss)
-      ∙ spread-children parents s 1 (listed (first_of (siblings_after parents s)) ++ ss) (omega arith)))
+    ∙ (ap (λ ys. cs ++ ys) (spread-siblings parents s ss)
+    ∙ spread-children parents s 1 (listed (first_of (siblings_after parents s)) ++ ss) (omega arith)))
 
 inside-some : (parents : List ℕ) (x k : ℕ) (ss : List ℕ) → Inside (length parents) ss → (o : Option ℕ) → first_of (children_from parents x k) ≡ o → Inside (length parents) (listed o ++ ss)
 inside-some parents x k ss h None is = h
@@ -225,10 +225,10 @@ pub inside-step : (parents : List ℕ) (s : ℕ) (ss : List ℕ) → Inside (len
 inside-step parents s ss h =
     let P : List ℕ → Type 0 = λ cs. Inside (length parents) (listed (first_of cs) ++ ss) in
     let siblings : Inside (length parents) (listed (first_of (siblings_after parents s)) ++ ss) =
-      ⊎_elim
-        (λ e. subst P (sym (ap (siblings_after parents) e ∙ siblings_after-root parents)) h)
-        (λ n. subst P (sym (siblings_after-some parents s (omega (arith, n)))) (inside-some parents (get_or parents s 0) (s + 1) ss h (first_of (children_from parents (get_or parents s 0) (s + 1))) refl))
-        (cases_eq s 0) in
+    ⊎_elim
+    (λ e. subst P (sym (ap (siblings_after parents) e ∙ siblings_after-root parents)) h)
+    (λ n. subst P (sym (siblings_after-some parents s (omega (arith, n)))) (inside-some parents (get_or parents s 0) (s + 1) ss h (first_of (children_from parents (get_or parents s 0) (s + 1))) refl))
+    (cases_eq s 0) in
     inside-some parents s 1 (listed (first_of (siblings_after parents s)) ++ ss) siblings (first_of (children_from parents s 1)) refl
 
 reverse-listed : (o : Option ℕ) → reverse (listed o) ≡ listed o

@@ -41,35 +41,35 @@ pub lookup-labels : (paths : List (List ℕ)) (w : ℕ) (es : List (ℕ × ℕ))
 lookup-labels paths w [] = refl
 lookup-labels paths w (e ∷ es) =
     ⊎_elim
-      (λ here_e. rw here_e refl)
-      (λ not_e. rw not_e (lookup-labels paths w es))
-      (cases_Bool (nat_eq w e.0))
+    (λ here_e. rw here_e refl)
+    (λ not_e. rw not_e (lookup-labels paths w es))
+    (cases_Bool (nat_eq w e.0))
 
 pub lookup-below : (n k w : ℕ) (es : List (ℕ × ℕ)) → AllBelow n (map (λ e. e.1) es) → lookup (nat_eq w) es ≡ Some k → k < n
 lookup-below n k w [] h is = absurd (cc)
 lookup-below n k w (e ∷ es) h is =
     ⊎_elim
-      (λ here_e.
-        let found : Some e.1 ≡ Some k = sym (cond-true (nat_eq w e.0) (Some e.1) (lookup (nat_eq w) es) here_e) ∙ is in
-        let same : e.1 ≡ k = cc in subst (λ (j : ℕ). j < n) same h.0)
-      (λ not_e. lookup-below n k w es h.1 (sym (cond-false (nat_eq w e.0) (Some e.1) (lookup (nat_eq w) es) not_e) ∙ is))
-      (cases_Bool (nat_eq w e.0))
+    (λ here_e.
+    let found : Some e.1 ≡ Some k = sym (cond-true (nat_eq w e.0) (Some e.1) (lookup (nat_eq w) es) here_e) ∙ is in
+    let same : e.1 ≡ k = cc in subst (λ (j : ℕ). j < n) same h.0)
+    (λ not_e. lookup-below n k w es h.1 (sym (cond-false (nat_eq w e.0) (Some e.1) (lookup (nat_eq w) es) not_e) ∙ is))
+    (cases_Bool (nat_eq w e.0))
 
 insert-labels : (paths : List (List ℕ)) (w node : ℕ) (es : List (ℕ × ℕ)) → map (label_at paths) (insert_entry nat_eq es w node) ≡ insert_entry nat_eq (map (label_at paths) es) w (path_at paths node)
 insert-labels paths w node [] = refl
 insert-labels paths w node (e ∷ es) =
     ⊎_elim
-      (λ here_e. rw here_e refl)
-      (λ not_e. rw not_e (ap (λ ls. label_at paths e ∷ ls) (insert-labels paths w node es)))
-      (cases_Bool (nat_eq w e.0))
+    (λ here_e. rw here_e refl)
+    (λ not_e. rw not_e (ap (λ ls. label_at paths e ∷ ls) (insert-labels paths w node es)))
+    (cases_Bool (nat_eq w e.0))
 
 insert-below : (n w node : ℕ) (es : List (ℕ × ℕ)) → node < n → AllBelow n (map (λ e. e.1) es) → AllBelow n (map (λ e. e.1) (insert_entry nat_eq es w node))
 insert-below n w node [] inside h = (inside, tt)
 insert-below n w node (e ∷ es) inside h =
     ⊎_elim
-      (λ here_e. rw here_e (inside, h.1))
-      (λ not_e. rw not_e (h.0, insert-below n w node es inside h.1))
-      (cases_Bool (nat_eq w e.0))
+    (λ here_e. rw here_e (inside, h.1))
+    (λ not_e. rw not_e (h.0, insert-below n w node es inside h.1))
+    (cases_Bool (nat_eq w e.0))
 
 pub put-labels : (paths : List (List ℕ)) (node : ℕ) (es ws : List (ℕ × ℕ)) → map (label_at paths) (with_labels_at es node ws) ≡ with_labels nat_eq (map (label_at paths) es) (path_at paths node) ws
 put-labels paths node es [] = refl
@@ -89,11 +89,11 @@ path_eq-longer q p less = false_from_ne_true (pointwise nat_eq q p) (λ e. omega
 pub known-number : (nodes : List (List ℕ)) (k : ℕ) → k < length nodes → number_of nat_eq nodes (get_or nodes k []) < length nodes
 known-number nodes k inside =
     ⊎_elim
-      (λ low. low)
-      (λ high.
-        let fails : pointwise nat_eq (get_or nodes k []) (get_or nodes k []) ≡ false = fails_before_first (pointwise nat_eq (get_or nodes k [])) nodes k [] (omega (arith, inside, high)) in
-        let no : true ≡ false = sym (path_eq-refl (get_or nodes k [])) ∙ fails in absurd (cc))
-      (cases_lt (number_of nat_eq nodes (get_or nodes k [])) (length nodes))
+    (λ low. low)
+    (λ high.
+    let fails : pointwise nat_eq (get_or nodes k []) (get_or nodes k []) ≡ false = fails_before_first (pointwise nat_eq (get_or nodes k [])) nodes k [] (omega (arith, inside, high)) in
+    let no : true ≡ false = sym (path_eq-refl (get_or nodes k [])) ∙ fails in absurd (cc))
+    (cases_lt (number_of nat_eq nodes (get_or nodes k [])) (length nodes))
 
 pub known-path : (nodes : List (List ℕ)) (k : ℕ) → k < length nodes → with_path nat_eq nodes (get_or nodes k []) ≡ nodes
 known-path nodes k inside = cond-true _ nodes (nodes ++ get_or nodes k [] ∷ []) (lt-ltb (number_of nat_eq nodes (get_or nodes k [])) (length nodes) (known-number nodes k inside))
@@ -124,42 +124,42 @@ number-le paths path = prefix_len-le-length (λ x. not (pointwise nat_eq path x)
 pub grown : (old new : List (List ℕ)) (path : List ℕ) (node : ℕ) → new ≡ with_path nat_eq old path → node ≡ number_of nat_eq old path → Grown old new path node
 grown old new path node is_new is_node =
     ⊎_elim
-      (λ there.
-        let stays : new ≡ old = is_new ∙ cond-true _ old (old ++ path ∷ []) (lt-ltb (number_of nat_eq old path) (length old) there) in
-        let passes : pointwise nat_eq path (get_or old (number_of nat_eq old path) []) ≡ true = passes_at_first (pointwise nat_eq path) old [] there in
-        let equal : path ≡ get_or old (number_of nat_eq old path) [] = (bytes_eq-Decides path (get_or old (number_of nat_eq old path) [])).0 passes in
-        record {
-          long = rw stays (omega arith);
-          count = rw stays (omega arith);
-          same = λ k in_k. ap (λ ps. get_or ps k []) stays;
-          other = λ k past. inr (ap (λ ps. get_or ps k []) stays ∙ get_or_past old k [] past);
-          inside = rw (stays, is_node) there;
-          at = rw (stays, is_node) (sym equal);
-        })
-      (λ absent.
-        let grows : new ≡ old ++ path ∷ [] = is_new ∙ cond-false _ old (old ++ path ∷ []) (le-ltb (number_of nat_eq old path) (length old) absent) in
-        let last : length old ≡ node = omega (arith, absent, is_node, number-le old path) in
-        record {
-          long = rw grows (omega (arith, length_push old path));
-          count = rw grows (omega (arith, length_push old path));
-          same = λ k in_k. rw grows (get_or_append_left old (path ∷ []) [] k in_k);
-          other = λ k past. ⊎_elim
-            (λ here_k. inl (rw grows (get_or_push old path [] k here_k)))
-            (λ beyond. inr (rw grows (get_or_past (old ++ path ∷ []) k [] (omega (arith, beyond, past, length_push old path)))))
-            (cases_eq (length old) k);
-          inside = rw grows (omega (arith, last, length_push old path));
-          at = rw grows (get_or_push old path [] node last);
-        })
-      (cases_lt (number_of nat_eq old path) (length old))
+    (λ there.
+    let stays : new ≡ old = is_new ∙ cond-true _ old (old ++ path ∷ []) (lt-ltb (number_of nat_eq old path) (length old) there) in
+    let passes : pointwise nat_eq path (get_or old (number_of nat_eq old path) []) ≡ true = passes_at_first (pointwise nat_eq path) old [] there in
+    let equal : path ≡ get_or old (number_of nat_eq old path) [] = (bytes_eq-Decides path (get_or old (number_of nat_eq old path) [])).0 passes in
+    record {
+      long = rw stays (omega arith);
+      count = rw stays (omega arith);
+      same = λ k in_k. ap (λ ps. get_or ps k []) stays;
+      other = λ k past. inr (ap (λ ps. get_or ps k []) stays ∙ get_or_past old k [] past);
+      inside = rw (stays, is_node) there;
+      at = rw (stays, is_node) (sym equal);
+    })
+    (λ absent.
+    let grows : new ≡ old ++ path ∷ [] = is_new ∙ cond-false _ old (old ++ path ∷ []) (le-ltb (number_of nat_eq old path) (length old) absent) in
+    let last : length old ≡ node = omega (arith, absent, is_node, number-le old path) in
+    record {
+      long = rw grows (omega (arith, length_push old path));
+      count = rw grows (omega (arith, length_push old path));
+      same = λ k in_k. rw grows (get_or_append_left old (path ∷ []) [] k in_k);
+      other = λ k past. ⊎_elim
+          (λ here_k. inl (rw grows (get_or_push old path [] k here_k)))
+          (λ beyond. inr (rw grows (get_or_past (old ++ path ∷ []) k [] (omega (arith, beyond, past, length_push old path)))))
+          (cases_eq (length old) k);
+      inside = rw grows (omega (arith, last, length_push old path));
+      at = rw grows (get_or_push old path [] node last);
+    })
+    (cases_lt (number_of nat_eq old path) (length old))
 
 -- ---- where labels stand, by numbers and by paths
 pub elsewhere-number : (nodes : List (List ℕ)) (entries : List (ℕ × ℕ)) (path : List ℕ) (node : Option ℕ) (ws : List (ℕ × ℕ)) → ((j : ℕ) → j < length nodes → stands_off node (Some j) ≡ stands_elsewhere nat_eq path (Some (path_at nodes j))) → AllBelow (length nodes) (map (λ e. e.1) entries) → elsewhere_by_number entries node ws ≡ elsewhere nat_eq (map (label_at nodes) entries) path ws
 elsewhere-number nodes entries path at [] h below = refl
 elsewhere-number nodes entries path at (w ∷ ws) h below =
     let off : (o : Option ℕ) → lookup (nat_eq w.0) entries ≡ o → stands_off at o ≡ stands_elsewhere nat_eq path (option_map (path_at nodes) o) =
-      λ o. elim o as (λ o. lookup (nat_eq w.0) entries ≡ o → stands_off at o ≡ stands_elsewhere nat_eq path (option_map (path_at nodes) o)) [ None ↦ (λ is. refl) | Some j ↦ (λ is. h j (lookup-below (length nodes) j w.0 entries below is)) ] in
+    λ o. elim o as (λ o. lookup (nat_eq w.0) entries ≡ o → stands_off at o ≡ stands_elsewhere nat_eq path (option_map (path_at nodes) o)) [ None ↦ (λ is. refl) | Some j ↦ (λ is. h j (lookup-below (length nodes) j w.0 entries below is)) ] in
     let here_w : stands_off at (lookup (nat_eq w.0) entries) ≡ stands_elsewhere nat_eq path (lookup (nat_eq w.0) (map (label_at nodes) entries)) =
-      off (lookup (nat_eq w.0) entries) refl ∙ ap (stands_elsewhere nat_eq path) (sym (lookup-labels nodes w.0 entries)) in
+    off (lookup (nat_eq w.0) entries) refl ∙ ap (stands_elsewhere nat_eq path) (sym (lookup-labels nodes w.0 entries)) in
     ap (λ b. cond b (Some w.1) (elsewhere_by_number entries at ws)) here_w
     ∙ ap (λ o. cond (stands_elsewhere nat_eq path (lookup (nat_eq w.0) (map (label_at nodes) entries))) (Some w.1) o) (elsewhere-number nodes entries path at ws h below)
 
@@ -192,9 +192,9 @@ module _ (r : Reader) (new : List (List ℕ)) (path : List ℕ) (k : ℕ) (h : S
     some = omega (arith, h.some, g.long);
     root = g.same 0 h.some ∙ h.root;
     shallow = λ n. ⊎_elim
-      (λ low. rw (g.same n low) (h.shallow n))
-      (λ high. ⊎_elim (λ e. rw e short) (λ e. rw e (omega arith)) (g.other n high))
-      (cases_lt n (length r.nodes));
+        (λ low. rw (g.same n low) (h.shallow n))
+        (λ high. ⊎_elim (λ e. rw e short) (λ e. rw e (omega arith)) (g.other n high))
+        (cases_lt n (length r.nodes));
     bodies = all_below-wider (length r.nodes) (length new) (reverse r.bodies.items) g.long h.bodies;
     labels = all_below-wider (length r.nodes) (length new) (map (λ e. e.1) r.labels.entries) g.long h.labels;
     settings = all_below-wider (length r.nodes) (length new) (map node_of r.settings.items) g.long h.settings;

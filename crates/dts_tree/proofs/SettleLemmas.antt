@@ -51,8 +51,8 @@ module _ {M N : Type 0} (e : M → M → Bool) (eq : N → N → Bool) (f : M �
   below_same (suc d) ps p =
       ap (λ cs. map f p ∷ flat_map (tree_below eq d (map (map f) ps)) cs) (children_same ps p)
       ∙ ap (λ qs. map f p ∷ qs) (flat_map-map (tree_below eq d (map (map f) ps)) (map f) (children_of e ps p)
-        ∙ (flat_map-cong (λ q. tree_below eq d (map (map f) ps) (map f q)) (λ q. map (map f) (tree_below e d ps q)) (children_of e ps p) (below_same d ps)
-        ∙ sym (map-flat_map (map f) (tree_below e d ps) (children_of e ps p))))
+      ∙ (flat_map-cong (λ q. tree_below eq d (map (map f) ps) (map f q)) (λ q. map (map f) (tree_below e d ps q)) (children_of e ps p) (below_same d ps)
+      ∙ sym (map-flat_map (map f) (tree_below e d ps) (children_of e ps p))))
 
 -- ---- names for numbers, and paths for nodes
 module _ (n : ℕ) (f : ℕ → List ℕ) (path : ℕ → List ℕ) (names : (a b : ℕ) → bytes_eq (f a) (f b) ≡ nat_eq a b) (apart : (j k : ℕ) → j < n → k < n → pointwise bytes_eq (map f (path j)) (map f (path k)) ≡ nat_eq j k) where
@@ -101,13 +101,13 @@ map-cong g h [] e = refl
 map-cong g h (x ∷ xs) e = ap (λ y. y ∷ map g xs) (e x) ∙ ap (λ ys. h x ∷ ys) (map-cong g h xs e)
 
 module _ (text : List ℕ) (tokens : List Token) (reader : Reader) (order places : List ℕ) (values : List ((ℕ × ℕ) × (ℕ × ℕ)))
-  (standing : Standing reader)
-  (bytes : (i : ℕ) → get_or text i 0 < 256)
-  (apart : (j k : ℕ) → j < length reader.nodes → k < length reader.nodes → pointwise nat_eq (get_or reader.nodes j []) (get_or reader.nodes k []) ≡ nat_eq j k)
-  (ordered : map (path_at reader.nodes) order ≡ tree_order_of nat_eq reader.nodes)
-  (below : AllBelow (length reader.nodes) order)
-  (placed : (k : ℕ) → k < length reader.nodes → get_or places k 0 ≡ first_place (nat_eq k) reader.settings.items)
-  (valued : values ≡ values_of nat_eq nat_eq reader.settings.items) where
+    (standing : Standing reader)
+    (bytes : (i : ℕ) → get_or text i 0 < 256)
+    (apart : (j k : ℕ) → j < length reader.nodes → k < length reader.nodes → pointwise nat_eq (get_or reader.nodes j []) (get_or reader.nodes k []) ≡ nat_eq j k)
+    (ordered : map (path_at reader.nodes) order ≡ tree_order_of nat_eq reader.nodes)
+    (below : AllBelow (length reader.nodes) order)
+    (placed : (k : ℕ) → k < length reader.nodes → get_or places k 0 ≡ first_place (nat_eq k) reader.settings.items)
+    (valued : values ≡ values_of nat_eq nat_eq reader.settings.items) where
   abbrev pub name : ℕ → List ℕ
   name = name_at text tokens
 
@@ -133,10 +133,10 @@ module _ (text : List ℕ) (tokens : List Token) (reader : Reader) (order places
   places_eq =
       let ss = map (setting_by name) (map (with_path_at reader.nodes) reader.settings.items) in
       map-same (λ (k : ℕ). k) (λ k. get_or places k 0) (λ k. first_place (pointwise bytes_eq (map name (path_at reader.nodes k))) ss) (length reader.nodes) order
-        (λ k in_k. placed k in_k
-          ∙ (place_same (length reader.nodes) name (path_at reader.nodes) names paths_apart k reader.settings.items in_k standing.settings
-          ∙ ap (first_place (pointwise bytes_eq (map name (path_at reader.nodes k)))) (sym settings_eq)))
-        (all_below-id (length reader.nodes) order below)
+      (λ k in_k. placed k in_k
+      ∙ (place_same (length reader.nodes) name (path_at reader.nodes) names paths_apart k reader.settings.items in_k standing.settings
+      ∙ ap (first_place (pointwise bytes_eq (map name (path_at reader.nodes k)))) (sym settings_eq)))
+      (all_below-id (length reader.nodes) order below)
       ∙ (sym (map-map (λ p. first_place (pointwise bytes_eq p) ss) (λ k. map name (path_at reader.nodes k)) order)
       ∙ ap (map (λ p. first_place (pointwise bytes_eq p) ss)) nodes_eq)
 
@@ -145,7 +145,7 @@ module _ (text : List ℕ) (tokens : List Token) (reader : Reader) (order places
       ap (map (λ v. with_tokens tokens (kept_value name reader.nodes v))) valued
       ∙ (sym (map-map (with_tokens tokens) (kept_value name reader.nodes) (values_of nat_eq nat_eq reader.settings.items))
       ∙ ap (map (with_tokens tokens)) (sym (values_from (length reader.nodes) name (path_at reader.nodes) names paths_apart [] reader.settings.items tt standing.settings)
-        ∙ ap (values_of (pointwise bytes_eq) bytes_eq) (sym settings_eq)))
+      ∙ ap (values_of (pointwise bytes_eq) bytes_eq) (sym settings_eq)))
 
   labels_eq : map (kept_label name reader.nodes) reader.labels.entries ≡ map (label_by name) (map (label_at reader.nodes) reader.labels.entries)
   labels_eq = sym (map-map (label_by name) (label_at reader.nodes) reader.labels.entries)

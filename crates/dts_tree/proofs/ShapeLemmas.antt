@@ -60,28 +60,28 @@ module _ (paths : List (List ℕ)) (parents : List ℕ) (h : ParentsOf paths par
       ap (filter t) (paths-range paths)
       ∙ (filter-map t g (range_with_len 0 (length paths))
       ∙ ap (map g) (child-range (λ j. t (g j)) (length paths) some no_root
-        ∙ (filter-same (λ j. t (g j)) (λ j. nat_eq (get_or parents j 0) x) 1 (length paths - 1) (λ j low high. child-test x in_x j low (omega (arith, high, some)))
-        ∙ ap (λ n. filter (λ j. nat_eq (get_or parents j 0) x) (range_with_len 1 (n - 1))) (sym h.long))))
+      ∙ (filter-same (λ j. t (g j)) (λ j. nat_eq (get_or parents j 0) x) 1 (length paths - 1) (λ j low high. child-test x in_x j low (omega (arith, high, some)))
+      ∙ ap (λ n. filter (λ j. nat_eq (get_or parents j 0) x) (range_with_len 1 (n - 1))) (sym h.long))))
 
   no-children : (x : ℕ) → length (get_or paths x []) ≡ 32 → children_from parents x 1 ≡ []
   unfolding children_from
   no-children x deep =
       filter-none (λ j. nat_eq (get_or parents j 0) x) 1 (length parents - 1)
       (λ j low high. ne_eqb (get_or parents j 0) x (λ e.
-        let in_j : j < length paths = omega (arith, low, high, h.long) in
-        let long : length (get_or paths j []) ≡ suc (length (get_or paths (get_or parents j 0) [])) = ap length (h.child j low in_j).1 in
-        let same : length (get_or paths (get_or parents j 0) []) ≡ length (get_or paths x []) = ap (λ (k : ℕ). length (get_or paths k [])) e in
-        omega (arith, long, same, deep, shallow j)))
+      let in_j : j < length paths = omega (arith, low, high, h.long) in
+      let long : length (get_or paths j []) ≡ suc (length (get_or paths (get_or parents j 0) [])) = ap length (h.child j low in_j).1 in
+      let same : length (get_or paths (get_or parents j 0) []) ≡ length (get_or paths x []) = ap (λ (k : ℕ). length (get_or paths k [])) e in
+      omega (arith, long, same, deep, shallow j)))
 
   blocks-same : (d x : ℕ) → x < length paths → length (get_or paths x []) + suc d ≡ 32 → ((j : ℕ) → j < length paths → length (get_or paths j []) + d ≡ 32 → tree_below nat_eq d paths (get_or paths j []) ≡ map (λ k. get_or paths k []) (block parents j)) → flat_map (λ j. tree_below nat_eq d paths (get_or paths j [])) (children_from parents x 1) ≡ flat_map (λ j. map (λ k. get_or paths k []) (block parents j)) (children_from parents x 1)
   unfolding children_from
   blocks-same d x in_x deep ih =
       flat_map-children (λ j. tree_below nat_eq d paths (get_or paths j [])) (λ j. map (λ k. get_or paths k []) (block parents j)) (λ j. nat_eq (get_or parents j 0) x) 1 (length parents - 1)
       (λ j low high passes.
-        let in_j : j < length paths = omega (arith, low, high, h.long) in
-        let long : length (get_or paths j []) ≡ suc (length (get_or paths (get_or parents j 0) [])) = ap length (h.child j low in_j).1 in
-        let same : length (get_or paths (get_or parents j 0) []) ≡ length (get_or paths x []) = ap (λ (k : ℕ). length (get_or paths k [])) (eqb-true (get_or parents j 0) x passes) in
-        ih j in_j (omega (arith, long, same, deep)))
+      let in_j : j < length paths = omega (arith, low, high, h.long) in
+      let long : length (get_or paths j []) ≡ suc (length (get_or paths (get_or parents j 0) [])) = ap length (h.child j low in_j).1 in
+      let same : length (get_or paths (get_or parents j 0) []) ≡ length (get_or paths x []) = ap (λ (k : ℕ). length (get_or paths k [])) (eqb-true (get_or parents j 0) x passes) in
+      ih j in_j (omega (arith, long, same, deep)))
 
   block-paths : (d x : ℕ) → x < length paths → length (get_or paths x []) + d ≡ 32 → tree_below nat_eq d paths (get_or paths x []) ≡ map (λ j. get_or paths j []) (block parents x)
   unfolding tree_below
@@ -93,7 +93,7 @@ module _ (paths : List (List ℕ)) (parents : List ℕ) (h : ParentsOf paths par
       let cs : List ℕ = children_from parents x 1 in
       ap (λ ps. g x ∷ flat_map (tree_below nat_eq d paths) ps) (children-same x in_x)
       ∙ (ap (λ ps. g x ∷ ps) (flat_map-map (tree_below nat_eq d paths) g cs
-        ∙ (blocks-same d x in_x deep (block-paths d) ∙ sym (map-flat_map g (block parents) cs)))
+      ∙ (blocks-same d x in_x deep (block-paths d) ∙ sym (map-flat_map g (block parents) cs)))
       ∙ sym (ap (map g) (block-step parents x is_earlier (omega (arith, in_x, h.long)))))
 
   pub order-paths : 0 < length paths → map (λ j. get_or paths j []) (in_tree_order parents) ≡ tree_order_of nat_eq paths

@@ -1,5 +1,4 @@
-use std::alloc::AllocFailed;
-use std::alloc::AllocError;
+use std::alloc::{AllocError, AllocFailed};
 
 /// Why tokens are no tree. Each place is the index of a byte.
 #[derive(Clone, Copy, Debug, PartialEq, Eq)]

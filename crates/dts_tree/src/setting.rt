@@ -2,7 +2,10 @@
 #[derive(Clone, Copy, Debug, PartialEq, Eq)]
 pub(crate) enum Setting<P, N> {
     /// The body of a node is opened, whose name stands at this place.
-    Opens { node: P, at: u32 },
+    Opens {
+        node: P,
+        at: u32,
+    },
     /// A property of a node, and the tokens of its value.
     Sets {
         node: P,

@@ -8,9 +8,9 @@ loop-k-init c = record {
   low = c.requires.some;
   high = omega arith;
   linked = linked_start c.args.parents.now c.in_ok-first.first.items c.in_ok-next.next.items
-    (sym c.in_ok-first.first.ok.0 ∙ c.in_ok-first.ensures.len) (sym c.in_ok-next.next.ok.0 ∙ c.in_ok-next.ensures.len)
-    (none_each c.in_ok-first.first.items (length c.args.parents.now) (c.in_ok-first.ensures.items_if_clones_equal (λ y h. search rules)))
-    (none_each c.in_ok-next.next.items (length c.args.parents.now) (c.in_ok-next.ensures.items_if_clones_equal (λ y h. search rules)));
+      (sym c.in_ok-first.first.ok.0 ∙ c.in_ok-first.ensures.len) (sym c.in_ok-next.next.ok.0 ∙ c.in_ok-next.ensures.len)
+      (none_each c.in_ok-first.first.items (length c.args.parents.now) (c.in_ok-first.ensures.items_if_clones_equal (λ y h. search rules)))
+      (none_each c.in_ok-next.next.items (length c.args.parents.now) (c.in_ok-next.ensures.items_if_clones_equal (λ y h. search rules)));
 }
 
 pub loop-k-preserved : goal.loop-k-preserved
@@ -24,8 +24,8 @@ loop-k-preserved c =
       low = omega arith;
       high = omega arith;
       linked = linked_more c.args.parents.now c.loop-k.first.items c.loop-k.next.items k c.index.result.now (omega arith) (omega arith) earlier
-        (get_or_read c.loop-k.first.items (get_or c.args.parents.now k 0) c.index.result.now (rw h.linked.firsts (omega (arith, earlier))) c.index.ensures None)
-        before;
+          (get_or_read c.loop-k.first.items (get_or c.args.parents.now k 0) c.index.result.now (rw h.linked.firsts (omega (arith, earlier))) c.index.ensures None)
+          before;
     }
 
 pub returns : goal.returns

@@ -24,9 +24,9 @@ returns-in_err-step-clause-fault c =
     let next = drop_more steps i (Label 0 0) c.loop-said-test.true in
     let p = err_from_is_err_and c.from_residual-in_err-step.result c.from_residual-in_err-step.ensures.1 in
     rw (p.1, p.2) (λ ne.
-      sym c.loop-said.invariant.rest
-      ∙ (ap (walked nat_eq (reading c.loop-said.reader)) next
-      ∙ walked-fault nat_eq (reading c.loop-said.reader) (get_or steps i (Label 0 0)) (drop (i + 1) steps) c.in_err-step.field-0.0 (c.in_err-step.ensures.fault ne)))
+    sym c.loop-said.invariant.rest
+    ∙ (ap (walked nat_eq (reading c.loop-said.reader)) next
+    ∙ walked-fault nat_eq (reading c.loop-said.reader) (get_or steps i (Label 0 0)) (drop (i + 1) steps) c.in_err-step.field-0.0 (c.in_err-step.ensures.fault ne)))
 
 pub loop-said-preserved : goal.loop-said-preserved
 loop-said-preserved c =

@@ -9,8 +9,8 @@ pub returns-clause-order : goal.returns-clause-order
 returns-clause-order c =
     let nodes = c.args.nodes.now in
     IfOk-weaker c.tree_order.result _ _ (λ order h.
-      ap (map (path_at nodes)) (h ∙ ap in_tree_order c.as_slice.ensures.value)
-      ∙ order-paths nodes c.in_ok-parents.parents.items c.in_ok-parents.ensures c.requires.shallow c.len-count.ensures.apart c.requires.some) c.tree_order.ensures.order
+    ap (map (path_at nodes)) (h ∙ ap in_tree_order c.as_slice.ensures.value)
+    ∙ order-paths nodes c.in_ok-parents.parents.items c.in_ok-parents.ensures c.requires.shallow c.len-count.ensures.apart c.requires.some) c.tree_order.ensures.order
 
 pub returns-clause-inside : goal.returns-clause-inside
 returns-clause-inside c =

@@ -17,7 +17,7 @@ loop-left-preserved c =
       high = omega arith;
       long = ap length c.put_place.ensures ∙ (with_place-length c.loop-left.places.items s ∙ h.long);
       places = λ k in_k.
-        ap (λ ps. get_or ps k 0) c.put_place.ensures
-        ∙ (place-step c.loop-left.places.items s (drop (i + 1) settings) k (rw h.long in_k) (h.places k in_k ∙ ap (λ n. first_place (nat_eq k) (drop n settings)) (sym next))
-        ∙ ap (first_place (nat_eq k)) (sym whole));
+          ap (λ ps. get_or ps k 0) c.put_place.ensures
+          ∙ (place-step c.loop-left.places.items s (drop (i + 1) settings) k (rw h.long in_k) (h.places k in_k ∙ ap (λ n. first_place (nat_eq k) (drop n settings)) (sym next))
+          ∙ ap (first_place (nat_eq k)) (sym whole));
     }

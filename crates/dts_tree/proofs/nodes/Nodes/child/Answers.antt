@@ -7,7 +7,6 @@ use Rattle.dts_tree.specs.Numbered.{same_key}
 use Rattle.dts_tree.proofs.NumberedLemmas.{child_known, child_new, numbered_new, path_eq-numbers, depth_at, depths_long, paths_of-push}
 use Rattle.dts_tree.proofs.nodes.Nodes.child.Goals as goal
 
-
 pub returns-in-Some-clause-ok : goal.returns-in-Some-clause-ok
 returns-in-Some-clause-ok c =
     let keys = c.self.inside.keys.keys in

@@ -10,14 +10,14 @@ returns-in-Some-clause-path c =
     let keys = c.self.inside.keys.keys in
     let inside : c.args.node < length (paths_of keys) = rw c.self.view_is c.requires.inside in
     rw (← c.self.view_is) (key-path keys (paths_of keys) c.args.node c.in-Some.key.now c.self.invariant.paths c.requires.child inside
-      (sym (get_or_from_slice_get keys (c.args.node - 1) c.in-Some.key.now (0, 0) (sym c.in-Some.ensures.key)))).0
+    (sym (get_or_from_slice_get keys (c.args.node - 1) c.in-Some.key.now (0, 0) (sym c.in-Some.ensures.key)))).0
 
 pub returns-in-Some-clause-earlier : goal.returns-in-Some-clause-earlier
 returns-in-Some-clause-earlier c =
     let keys = c.self.inside.keys.keys in
     let inside : c.args.node < length (paths_of keys) = rw c.self.view_is c.requires.inside in
     (key-path keys (paths_of keys) c.args.node c.in-Some.key.now c.self.invariant.paths c.requires.child inside
-      (sym (get_or_from_slice_get keys (c.args.node - 1) c.in-Some.key.now (0, 0) (sym c.in-Some.ensures.key)))).1
+    (sym (get_or_from_slice_get keys (c.args.node - 1) c.in-Some.key.now (0, 0) (sym c.in-Some.ensures.key)))).1
 
 pub returns-in-None-clause-path : goal.returns-in-None-clause-path
 returns-in-None-clause-path c =

@@ -13,7 +13,7 @@ returns-in-Some-clause-fault c =
     let path : List ℕ = c.args.name ∷ get_or self.nodes c.here-parent.result [] in
     let deep : 32 < length path = omega (arith, c.if-depth-ge-DEEPEST.true, c.depth.ensures) in
     let is : elsewhere nat_eq (map (label_at self.nodes) self.labels.entries) path self.waiting.items ≡ Some c.in-Some.place =
-      sym (deep-elsewhere self.nodes self.labels.entries path self.waiting.items c.requires.standing.shallow deep c.requires.standing.labels) ∙ (sym c.elsewhere.ensures ∙ c.in-Some.is) in
+    sym (deep-elsewhere self.nodes self.labels.entries path self.waiting.items c.requires.standing.shallow deep c.requires.standing.labels) ∙ (sym c.elsewhere.ensures ∙ c.in-Some.is) in
     rw (← c.here-parent.ensures.path) (λ _. ap (node_opened nat_eq (reading self) path c.args.at) is)
 
 pub returns-in-None-clause-fault : goal.returns-in-None-clause-fault
@@ -22,9 +22,9 @@ returns-in-None-clause-fault c =
     let path : List ℕ = c.args.name ∷ get_or self.nodes c.here-parent.result [] in
     let deep : 32 < length path = omega (arith, c.if-depth-ge-DEEPEST.true, c.depth.ensures) in
     let is : elsewhere nat_eq (map (label_at self.nodes) self.labels.entries) path self.waiting.items ≡ None =
-      sym (deep-elsewhere self.nodes self.labels.entries path self.waiting.items c.requires.standing.shallow deep c.requires.standing.labels) ∙ (sym c.elsewhere.ensures ∙ c.in-None.is) in
+    sym (deep-elsewhere self.nodes self.labels.entries path self.waiting.items c.requires.standing.shallow deep c.requires.standing.labels) ∙ (sym c.elsewhere.ensures ∙ c.in-None.is) in
     rw (← c.here-parent.ensures.path) (λ _. ap (node_opened nat_eq (reading self) path c.args.at) is
-      ∙ cond-false _ (Ok (opened nat_eq (reading self) path c.args.at)) (Err (TooDeep c.args.at)) (lt-leb (length path) 32 deep))
+    ∙ cond-false _ (Ok (opened nat_eq (reading self) path c.args.at)) (Err (TooDeep c.args.at)) (lt-leb (length path) 32 deep))
 
 pub returns-in-Some-elsewhere-clause-fault : goal.returns-in-Some-elsewhere-clause-fault
 returns-in-Some-elsewhere-clause-fault c =
@@ -34,9 +34,9 @@ returns-in-Some-elsewhere-clause-fault c =
     let path : List ℕ = c.args.name ∷ get_or self.nodes c.here-parent.result [] in
     let g : Grown self.nodes new path k = grown self.nodes new path k c.in_ok-node.ensures.ok c.in_ok-node.ensures.number in
     let is : elsewhere nat_eq (map (label_at self.nodes) self.labels.entries) path self.waiting.items ≡ Some c.in-Some-elsewhere.place =
-      ap (λ ls. elsewhere nat_eq ls path self.waiting.items) (sym (labels-grown self new path k c.requires.standing g))
-      ∙ (sym (shallow-elsewhere new self.labels.entries path k self.waiting.items g.inside g.at c.in_ok-node.ensures.apart (all_below-wider (length self.nodes) (length new) (map (λ e. e.1) self.labels.entries) g.long c.requires.standing.labels))
-      ∙ (sym c.elsewhere-2.ensures ∙ c.in-Some-elsewhere.is)) in
+    ap (λ ls. elsewhere nat_eq ls path self.waiting.items) (sym (labels-grown self new path k c.requires.standing g))
+    ∙ (sym (shallow-elsewhere new self.labels.entries path k self.waiting.items g.inside g.at c.in_ok-node.ensures.apart (all_below-wider (length self.nodes) (length new) (map (λ e. e.1) self.labels.entries) g.long c.requires.standing.labels))
+    ∙ (sym c.elsewhere-2.ensures ∙ c.in-Some-elsewhere.is)) in
     rw (← c.here-parent.ensures.path) (λ _. ap (node_opened nat_eq (reading self) path c.args.at) is)
 
 pub open-requires-clause-standing : goal.open-requires-clause-standing
@@ -61,10 +61,10 @@ returns-clause-ok c =
     let g : Grown self.nodes new path k = grown self.nodes new path k c.in_ok-node.ensures.ok c.in_ok-node.ensures.number in
     let short : length path ≤ 32 = omega (arith, c.if-depth-ge-DEEPEST.false, c.depth.ensures) in
     let is : elsewhere nat_eq (map (label_at self.nodes) self.labels.entries) path self.waiting.items ≡ None =
-      ap (λ ls. elsewhere nat_eq ls path self.waiting.items) (sym (labels-grown self new path k c.requires.standing g))
-      ∙ (sym (shallow-elsewhere new self.labels.entries path k self.waiting.items g.inside g.at c.in_ok-node.ensures.apart (all_below-wider (length self.nodes) (length new) (map (λ e. e.1) self.labels.entries) g.long c.requires.standing.labels))
-      ∙ (sym c.elsewhere-2.ensures ∙ c.in_default.is)) in
+    ap (λ ls. elsewhere nat_eq ls path self.waiting.items) (sym (labels-grown self new path k c.requires.standing g))
+    ∙ (sym (shallow-elsewhere new self.labels.entries path k self.waiting.items g.inside g.at c.in_ok-node.ensures.apart (all_below-wider (length self.nodes) (length new) (map (λ e. e.1) self.labels.entries) g.long c.requires.standing.labels))
+    ∙ (sym c.elsewhere-2.ensures ∙ c.in_default.is)) in
     rw (← c.here-parent.ensures.path) (on_ok_weaker c.open.result (λ d.
-      ap (node_opened nat_eq (reading self) path c.args.at) is
-      ∙ (cond-true _ (Ok (opened nat_eq (reading self) path c.args.at)) (Err (TooDeep c.args.at)) (le-leb (length path) 32 short)
-      ∙ ap Ok (sym (d ∙ opened-grown self new path k c.requires.standing g c.args.at c.in_ok-node.ensures.ok)))) c.open.ensures.ok)
+    ap (node_opened nat_eq (reading self) path c.args.at) is
+    ∙ (cond-true _ (Ok (opened nat_eq (reading self) path c.args.at)) (Err (TooDeep c.args.at)) (le-leb (length path) 32 short)
+    ∙ ap Ok (sym (d ∙ opened-grown self new path k c.requires.standing g c.args.at c.in_ok-node.ensures.ok)))) c.open.ensures.ok)

@@ -23,5 +23,5 @@ pub returns-clause-ok : goal.returns-clause-ok
 returns-clause-ok c =
     let self = c.args.self.now in
     open-reading self.nodes self.bodies.items self.labels.entries self.waiting.items self.settings.items c.args.node c.args.at c.requires.inside
-      c.push-2.new.self.items c.put_labels.new.labels.entries c.clear.new.self.items c.push.new.self.items
-      c.in_ok-push-2.ensures.items (labels c) c.clear.ensures.items c.in_ok-push.ensures.items
+    c.push-2.new.self.items c.put_labels.new.labels.entries c.clear.new.self.items c.push.new.self.items
+    c.in_ok-push-2.ensures.items (labels c) c.clear.ensures.items c.in_ok-push.ensures.items
