@@ -10,6 +10,7 @@ pub mod SettledLemmas
 pub mod ShapeLemmas
 pub mod SayingLemmas
 pub mod TreeLemmas
+pub mod TreeLookLemmas
 pub mod TextReadingLemmas
 pub mod TurnLemmas
 pub mod ValueLemmas

@@ -62,18 +62,18 @@ found_put (e ∷ es) k v q =
     elim (slice_cmp nat_cmp k.items e.0.items) as (λ (o : Ordering). slice_cmp nat_cmp k.items e.0.items ≡ o → found q (match_ordering o ((k, v) ∷ e ∷ es) ((e.0, v) ∷ es) (e ∷ put es k v)) ≡ cond (bytes_eq k.items q) (Some v) (found q (e ∷ es))) [
       | Less ↦ λ is. ap (λ b. cond b (Some v) (found q (e ∷ es))) (is_eq-slice_cmp q k.items ∙ bytes_eq-swap q k.items)
       | Equal ↦ λ is.
-        (let same : k.items ≡ e.0.items = (bytes_eq-Decides k.items e.0.items).0 (sym (is_eq-slice_cmp k.items e.0.items) ∙ ap is_eq is) in
-        let here : is_eq (slice_cmp nat_cmp q e.0.items) ≡ bytes_eq k.items q = is_eq-slice_cmp q e.0.items ∙ bytes_eq-swap q e.0.items ∙ ap (λ xs. bytes_eq xs q) (sym same) in
-        ap (λ b. cond b (Some v) (found q es)) here
-        ∙ pick_same (bytes_eq k.items q) v e.1 (found q es)
-        ∙ ap (λ b. cond (bytes_eq k.items q) (Some v) (cond b (Some e.1) (found q es))) (sym here))
+          (let same : k.items ≡ e.0.items = (bytes_eq-Decides k.items e.0.items).0 (sym (is_eq-slice_cmp k.items e.0.items) ∙ ap is_eq is) in
+          let here : is_eq (slice_cmp nat_cmp q e.0.items) ≡ bytes_eq k.items q = is_eq-slice_cmp q e.0.items ∙ bytes_eq-swap q e.0.items ∙ ap (λ xs. bytes_eq xs q) (sym same) in
+          ap (λ b. cond b (Some v) (found q es)) here
+          ∙ pick_same (bytes_eq k.items q) v e.1 (found q es)
+          ∙ ap (λ b. cond (bytes_eq k.items q) (Some v) (cond b (Some e.1) (found q es))) (sym here))
       | Greater ↦ λ is.
-        (elim (bytes_eq k.items q) as (λ (b : Bool). bytes_eq k.items q ≡ b → cond (is_eq (slice_cmp nat_cmp q e.0.items)) (Some e.1) (found q (put es k v)) ≡ cond b (Some v) (cond (is_eq (slice_cmp nat_cmp q e.0.items)) (Some e.1) (found q es))) [
-          | true ↦ λ same.
-            (let other : is_eq (slice_cmp nat_cmp q e.0.items) ≡ false = ap (λ xs. is_eq (slice_cmp nat_cmp xs e.0.items)) (sym ((bytes_eq-Decides k.items q).0 same)) ∙ ap is_eq is in
-            ap (λ b. cond b (Some e.1) (found q (put es k v))) other ∙ found_put es k v q ∙ ap (λ b. cond b (Some v) (found q es)) same)
-          | false ↦ λ differ. ap (λ o. cond (is_eq (slice_cmp nat_cmp q e.0.items)) (Some e.1) o) (found_put es k v q ∙ ap (λ b. cond b (Some v) (found q es)) differ)
-        ] refl)
+          (elim (bytes_eq k.items q) as (λ (b : Bool). bytes_eq k.items q ≡ b → cond (is_eq (slice_cmp nat_cmp q e.0.items)) (Some e.1) (found q (put es k v)) ≡ cond b (Some v) (cond (is_eq (slice_cmp nat_cmp q e.0.items)) (Some e.1) (found q es))) [
+            | true ↦ λ same.
+                (let other : is_eq (slice_cmp nat_cmp q e.0.items) ≡ false = ap (λ xs. is_eq (slice_cmp nat_cmp xs e.0.items)) (sym ((bytes_eq-Decides k.items q).0 same)) ∙ ap is_eq is in
+                ap (λ b. cond b (Some e.1) (found q (put es k v))) other ∙ found_put es k v q ∙ ap (λ b. cond b (Some v) (found q es)) same)
+            | false ↦ λ differ. ap (λ o. cond (is_eq (slice_cmp nat_cmp q e.0.items)) (Some e.1) o) (found_put es k v q ∙ ap (λ b. cond b (Some v) (found q es)) differ)
+          ] refl)
     ] refl
 
 -- a map with one more name at its place
@@ -156,6 +156,10 @@ and_second : (a b : Bool) → (a && b) ≡ true → b ≡ true
 and_second true b both = both
 and_second false b both = absurd (let e : false ≡ true = both in cc)
 
+and_first : (a b : Bool) → (a && b) ≡ true → a ≡ true
+and_first true b both = refl
+and_first false b both = both
+
 -- numbers and the names that they stand for
 
 module _ (text : List ℕ) (tokens : List Token) where
@@ -226,4 +230,40 @@ module _ (text : List ℕ) (tokens : List Token) where
           | true ↦ λ is. absurd (eqb-false a b differ (name_at_once bytes a b ((bytes_eq-Decides _ _).0 is)))
           | false ↦ λ is. refl
         ] refl
+      ] refl
+
+  -- a name that a token has is that of its number
+  pub name_found : (q : List ℕ) (n : ℕ) → known_before (first_with text tokens q) (length tokens) ≡ Some n → name_at text tokens n ≡ q
+  unfolding first_with name_at
+  name_found q n is =
+      let p : Token → Bool = λ t. bytes_eq q (name_of text t) in
+      let first = position_or_len p tokens in
+      elim (ltb first (length tokens)) as (λ (b : Bool). ltb first (length tokens) ≡ b → cond b (Some first) None ≡ Some n → name_at text tokens n ≡ q) [
+        | true ↦ λ lt same.
+            (let inside = ltb-true first (length tokens) lt in
+            let here : first ≡ n = cc in
+            let name : q ≡ name_of text (get_or tokens first blank) = (bytes_eq-Decides _ _).0 (passes_at_first p tokens blank inside) in
+            let back : position_or_len (λ (u : Token). bytes_eq (name_of text (get_or tokens first blank)) (name_of text u)) tokens ≡ first = ap (λ (xs : List ℕ). position_or_len (λ (u : Token). bytes_eq xs (name_of text u)) tokens) (sym name) in
+            subst (λ (m : ℕ). name_at text tokens m ≡ q) here (rw (lt, eq-eqb _ _ back) (sym name)))
+        | false ↦ λ ge same. absurd (let e : None ≡ Some n = same in cc)
+      ] refl is
+
+  -- a name that no token has is that of no number
+  pub name_missing : (q : List ℕ) → get_or q 0 0 < 256 → known_before (first_with text tokens q) (length tokens) ≡ None → (m : ℕ) → bytes_eq q (name_at text tokens m) ≡ false
+  unfolding name_at
+  name_missing q short is m =
+      let name = name_of text (get_or tokens m blank) in
+      let past : first_with text tokens q < length tokens → ⊥ = λ before. (let e : Some (first_with text tokens q) ≡ None = sym (ap (λ b. cond b (Some (first_with text tokens q)) None) (lt-ltb _ _ before)) ∙ is in cc) in
+      let differs : q ≡ name_at text tokens m → ⊥ =
+      λ same. elim (ltb m (length tokens) && eqb (first_with text tokens name) m) as (λ (b : Bool). (ltb m (length tokens) && eqb (first_with text tokens name) m) ≡ b → q ≡ cond b name ((256 + m) ∷ []) → ⊥) [
+        | true ↦ λ own now.
+            (let here : first_with text tokens name ≡ m = eqb-true _ _ (and_second (ltb m (length tokens)) _ own) in
+            let inside : m < length tokens = ltb-true _ _ (and_first _ (eqb (first_with text tokens name) m) own) in
+            let found : first_with text tokens q ≡ m = ap (first_with text tokens) now ∙ here in
+            past (omega (arith, inside, found)))
+        | false ↦ λ own now. let head : get_or q 0 0 ≡ 256 + m = ap (λ xs. get_or xs 0 0) now in absurd (omega (arith, short, head))
+      ] refl same in
+      elim (bytes_eq q (name_at text tokens m)) as (λ (r : Bool). bytes_eq q (name_at text tokens m) ≡ r → r ≡ false) [
+        | true ↦ λ yes. absurd (differs ((bytes_eq-Decides _ _).0 yes))
+        | false ↦ λ differ. refl
       ] refl

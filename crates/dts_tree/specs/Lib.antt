@@ -7,12 +7,13 @@ pub mod Path
 pub mod Reader
 pub mod Reading
 pub mod Rename
-pub mod Settled
-pub mod Shape
 pub mod Rest
 pub mod Saying
+pub mod Settled
+pub mod Shape
 pub mod Symbol
-pub mod Tree
 pub mod TextReading
+pub mod Tree
+pub mod TreeValues
 pub mod Value
 pub mod Within

@@ -6,7 +6,7 @@ use Rattle.std.specs.Str.{bytes_eq}
 use Rattle.std.specs.Cmp.Lexicographic.{pointwise}
 use Rattle.dts_lex.specs.declared.token.Token.{Token}
 use Rattle.dts_tree.specs.Path.{number_of}
-use Rattle.dts_tree.specs.Names.{name_of, name_at, token_at}
+use Rattle.dts_tree.specs.Names.{name_of, name_at, token_at, first_with, known_before}
 use Rattle.dts_tree.specs.Reading.{Reading}
 use Rattle.dts_tree.specs.Reader.{AllBelow, path_at}
 use Rattle.dts_tree.specs.Shape.{tree_order_of}
@@ -57,7 +57,7 @@ abbrev pub AreNamed : List ℕ → List Token → List (List ℕ) → Type 0
 AreNamed text tokens nodes = (k name : ℕ) (path : List ℕ) → path_at nodes k ≡ name ∷ path → (name < length tokens) × (name_at text tokens name ≡ name_of text (token_at tokens name))
 
 -- names are told by numbers that are theirs, and nodes stand in the order at their ranks
-pub record Settled (text : List ℕ) (tokens : List Token) (nodes : List (List ℕ)) (order ranks places : List ℕ) : Type 0 where
+pub record Settled (text : List ℕ) (tokens : List Token) (nodes : List (List ℕ)) (order ranks places : List ℕ) (labels : List (ℕ × ℕ)) (values : List ((ℕ × ℕ) × (ℕ × ℕ))) (find : List ℕ → Option ℕ) : Type 0 where
   pub few : length order < 2 ^ 32
   pub inside : AllBelow (length nodes) order
   pub long_ranks : length ranks ≡ length nodes
@@ -65,6 +65,9 @@ pub record Settled (text : List ℕ) (tokens : List Token) (nodes : List (List �
   pub long_places : length places ≡ length nodes
   pub bytes : (i : ℕ) → slice_index text i < 256
   pub root : path_at nodes 0 ≡ []
+  pub found : (name : List ℕ) → find name ≡ known_before (first_with text tokens name) (length tokens)
+  pub values_below : AllBelow (length nodes) (map (λ v. v.0.0) values)
+  pub labels_below : AllBelow (length nodes) (map (λ l. l.1) labels)
   pub named : AreNamed text tokens nodes
 
 -- the name and the path of a node in place of their numbers

@@ -1,6 +1,7 @@
 //! Reads the tokens of a devicetree text into its tree, or names the first fault.
 #![tactic(auto)]
 
+mod cell;
 mod fault;
 mod names;
 mod nodes;
@@ -17,9 +18,11 @@ mod step;
 mod symbol;
 mod text_reading;
 mod tree;
+mod tree_values;
 mod turn;
 mod value;
 
+pub use cell::Cell;
 pub use fault::TreeFault;
 pub use parser::parse;
 pub use tree::Tree;

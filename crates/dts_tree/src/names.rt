@@ -36,11 +36,7 @@ pub(crate) struct Names {
     pub(crate) firsts: BTreeMap<Vec<u8>, u32>,
 }
 
-pub(crate) fn names_of(
-    alloc: Global,
-    text: &[u8],
-    tokens: &[Token],
-) -> Result<Names, AllocError>
+pub(crate) fn names_of(alloc: Global, text: &[u8], tokens: &[Token]) -> Result<Names, AllocError>
     requires { length tokens.now ≤ 4294967295 }
     ensures numbers { IfOk result (λ names. names.numbers ≡ map (number_in text.now tokens.now) tokens.now) }
     ensures firsts { IfOk result (λ names. (q : List ℕ)

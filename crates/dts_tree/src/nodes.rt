@@ -57,6 +57,13 @@ impl Nodes {
         self.depths[node as usize]
     }
 
+    /// No two nodes have one path.
+    pub(crate) fn apart(&self)
+        ensures { (j k : ℕ) → j < length self.now → k < length self.now → pointwise nat_eq (slice_index_or self.now j []) (slice_index_or self.now k []) ≡ nat_eq j k }
+    {
+        let _count = self.depths.len();
+    }
+
     /// The number of a node's parent, and the node's name.
     pub(crate) fn key(&self, node: u32) -> (u32, u32)
         requires child { 0 < node }

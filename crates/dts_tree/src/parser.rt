@@ -5,7 +5,7 @@ ghost use Rattle.dts_tree.specs.TextReading.{IsOutcome};
 ghost use Rattle.dts_tree.specs.Tree.{tree_of};
 
 use crate::fault::TreeFault;
-use crate::text_reading::{TextReading, reading_of};
+use crate::text_reading::reading_of;
 use crate::tree::Tree;
 use dts_lex::Token;
 use dts_lex::laws::spans_rise;
@@ -21,6 +21,6 @@ pub fn parse(alloc: Global, text: &[u8], tokens: &[Token]) -> Result<Tree, TreeF
     ensures fault { IfErr result (λ fault. fault ≢ TreeFault.Memory → IsOutcome text.now tokens.now (Err fault)) }
 {
     spans_rise();
-    let TextReading { reader, .. } = reading_of(alloc, text, tokens)?;
-    Tree::of_reader(alloc, text, tokens, reader)
+    let read = reading_of(alloc, text, tokens)?;
+    Tree::of_reader(alloc, text, tokens, read.reader, read.names.firsts)
 }

@@ -1,4 +1,6 @@
-use crate::TreeFault;
+ghost use Rattle.std.specs.Prelude.{◌<◌, length};
+
+use crate::{Cell, Tree, TreeFault, parse};
 use dts_lex::lex;
 use std::alloc::{AllocError, Global};
 use std::test::Fail;
@@ -14,8 +16,12 @@ fn shown(alloc: Global, text: &[u8]) -> Result<String, AllocError> {
         return Ok(line);
     };
     let tokens = found.as_slice();
-    match crate::text_reading::reading_of(alloc, text, tokens) {
-        Ok(_) => write!(line, "ok")?,
+    match parse(alloc, text, tokens) {
+        Ok(tree) => {
+            for node in 0..tree.count() {
+                write_node(&mut line, &tree, node)?;
+            }
+        }
         Err(TreeFault::Syntax(at)) => write!(line, "syntax {at}")?,
         Err(TreeFault::NoLabel(at)) => write!(line, "nolabel {at}")?,
         Err(TreeFault::TwoLabels(at)) => write!(line, "twolabels {at}")?,
@@ -24,6 +30,20 @@ fn shown(alloc: Global, text: &[u8]) -> Result<String, AllocError> {
         Err(TreeFault::Memory) => write!(line, "memory")?,
     }
     Ok(line)
+}
+
+fn write_node(line: &mut String, tree: &Tree, node: u32) -> Result<(), AllocError>
+    requires { node < length tree.now.nodes }
+{
+    for b in tree.name(node) {
+        line.push(*b as char)?;
+    }
+    let at = tree.at(node);
+    match tree.parent(node) {
+        Some(parent) => write!(line, "@{at}^{parent} ")?,
+        None => write!(line, "@{at}^- ")?,
+    }
+    Ok(())
 }
 
 const TABLE: [(&[u8], &str); 105] = [
@@ -105,9 +125,15 @@ const TABLE: [(&[u8], &str); 105] = [
     (b"/dts-v1/; / { x: a { }; x: b { }; };", "twolabels 24"),
     (b"/dts-v1/; / { x: a { }; z: x: b { }; };", "twolabels 27"),
     (b"/dts-v1/; / { x: a { x: b { }; }; };", "twolabels 21"),
-    (b"/dts-v1/; / { x: a { }; y: b { }; x: y: c { }; };", "twolabels 34"),
+    (
+        b"/dts-v1/; / { x: a { }; y: b { }; x: y: c { }; };",
+        "twolabels 34",
+    ),
     (b"/dts-v1/; / { x: a { }; x: b ; };", "syntax 29"),
-    (b"/dts-v1/; / { x: a { b { }; }; c { x: b { }; }; };", "twolabels 35"),
+    (
+        b"/dts-v1/; / { x: a { b { }; }; c { x: b { }; }; };",
+        "twolabels 35",
+    ),
     (b"/dts-v1/; / { a = <&x>; };", "nolabel 19"),
     (b"/dts-v1/; / { x = <&y>; };", "nolabel 19"),
     (b"/dts-v1/; / { a = &x; };", "nolabel 18"),
@@ -115,29 +141,172 @@ const TABLE: [(&[u8], &str); 105] = [
     (b"/dts-v1/; / { y: b { }; a = <&y>, <&x>; };", "nolabel 35"),
     (b"/dts-v1/; / { a = <&x>; a = <1>; };", "nolabel 19"),
     (b"/dts-v1/; / { a = <&x>; ; };", "syntax 24"),
-    (b"/dts-v1/; / { a { a { a { a { a { a { a { a { a { a { a { a { a { a { a { a { a { a { a { a { a { a { a { a { a { a { a { a { a { a { a { a { b { ", "toodeep 142"),
-    (b"/dts-v1/; / { a { a { a { a { a { a { a { a { a { a { a { a { a { a { a { a { a { a { a { a { a { a { a { a { a { a { a { a { a { a { a { a { b b", "syntax 144"),
-    (b"/dts-v1/; / { a { a { a { a { a { a { a { a { a { a { a { a { a { a { a { a { a { a { a { a { a { a { a { a { a { a { a { a { a { a { a { a { b", "syntax 143"),
-    (b"/dts-v1/; / { x: y { }; a { a { a { a { a { a { a { a { a { a { a { a { a { a { a { a { a { a { a { a { a { a { a { a { a { a { a { a { a { a { a { a { x: b { ", "twolabels 152"),
-    (b"/dts-v1/; / { a { a { a { a { a { a { a { a { a { a { a { a { a { a { a { a { a { a { a { a { a { a { a { a { a { a { a { a { a { a { a { a { b; ", "syntax 145"),
-    (b"/dts-v1/;", "ok"),
-    (b"/dts-v1/; / { };", "ok"),
-    (b"/dts-v1/; / { }; / { };", "ok"),
-    (b"/dts-v1/; / { a { }; b { }; a { c { }; }; };", "ok"),
-    (b"/dts-v1/; / { a { }; }; / { b { a { }; }; };", "ok"),
-    (b"/dts-v1/; / { a { x: b { }; }; c { }; }; &x { d { }; };", "ok"),
-    (b"/dts-v1/; / { x: y: a@1 { }; x: a@1 { }; };", "ok"),
-    (b"/dts-v1/; / { a = <&x>; _9: x: b { }; };", "ok"),
-    (b"/dts-v1/; / { a = <1>; #include ; };", "ok"),
-    (b"/dts-v1/; / { a; a { a; a { }; }; };", "ok"),
-    (b"/dts-v1/; / { a { }; b; c { }; d = <1>; }; // x", "ok"),
-    (b"/dts-v1/; / { a = <>, [], [00 fF], \"\", <0x1 &x>, &x; x: a,b { }; };", "ok"),
+    (
+        b"/dts-v1/; / { a { a { a { a { a { a { a { a { a { a { a { a { a { a { a { a { a { a { a { a { a { a { a { a { a { a { a { a { a { a { a { a { b { ",
+        "toodeep 142",
+    ),
+    (
+        b"/dts-v1/; / { a { a { a { a { a { a { a { a { a { a { a { a { a { a { a { a { a { a { a { a { a { a { a { a { a { a { a { a { a { a { a { a { b b",
+        "syntax 144",
+    ),
+    (
+        b"/dts-v1/; / { a { a { a { a { a { a { a { a { a { a { a { a { a { a { a { a { a { a { a { a { a { a { a { a { a { a { a { a { a { a { a { a { b",
+        "syntax 143",
+    ),
+    (
+        b"/dts-v1/; / { x: y { }; a { a { a { a { a { a { a { a { a { a { a { a { a { a { a { a { a { a { a { a { a { a { a { a { a { a { a { a { a { a { a { a { x: b { ",
+        "twolabels 152",
+    ),
+    (
+        b"/dts-v1/; / { a { a { a { a { a { a { a { a { a { a { a { a { a { a { a { a { a { a { a { a { a { a { a { a { a { a { a { a { a { a { a { a { b; ",
+        "syntax 145",
+    ),
+    (b"/dts-v1/;", "@0^- "),
+    (b"/dts-v1/; / { };", "@10^- "),
+    (b"/dts-v1/; / { }; / { };", "@10^- "),
+    (
+        b"/dts-v1/; / { a { }; b { }; a { c { }; }; };",
+        "@10^- a@14^0 c@32^1 b@21^0 ",
+    ),
+    (
+        b"/dts-v1/; / { a { }; }; / { b { a { }; }; };",
+        "@10^- a@14^0 b@28^0 a@32^2 ",
+    ),
+    (
+        b"/dts-v1/; / { a { x: b { }; }; c { }; }; &x { d { }; };",
+        "@10^- a@14^0 b@21^1 d@46^2 c@31^0 ",
+    ),
+    (
+        b"/dts-v1/; / { x: y: a@1 { }; x: a@1 { }; };",
+        "@10^- a@1@20^0 ",
+    ),
+    (b"/dts-v1/; / { a = <&x>; _9: x: b { }; };", "@10^- b@31^0 "),
+    (b"/dts-v1/; / { a = <1>; #include ; };", "@10^- "),
+    (
+        b"/dts-v1/; / { a; a { a; a { }; }; };",
+        "@10^- a@17^0 a@24^1 ",
+    ),
+    (
+        b"/dts-v1/; / { a { }; b; c { }; d = <1>; }; // x",
+        "@10^- a@14^0 c@24^0 ",
+    ),
+    (
+        b"/dts-v1/; / { a = <>, [], [00 fF], \"\", <0x1 &x>, &x; x: a,b { }; };",
+        "@10^- a,b@56^0 ",
+    ),
 ];
 
 #[test]
 fn each_rule_at_both_edges(rt: HostRuntime) -> Result<(), Fail> {
     for (text, expected) in TABLE {
         let line = shown(rt.alloc(), text)?;
+        assert_eq!(rt; line.as_str(), expected);
+    }
+    Ok(())
+}
+
+/// The cells and the strings of a property, or a dash.
+fn shown_values(alloc: Global, text: &[u8], prop: &[u8]) -> Result<String, AllocError> {
+    let mut line = String::new(alloc);
+    if text.len() > 4_294_967_295 {
+        return Ok(line);
+    }
+    let Ok(found) = lex(alloc, text) else {
+        return Ok(line);
+    };
+    let Ok(tree) = parse(alloc, text, found.as_slice()) else {
+        return Ok(line);
+    };
+    if tree.count() == 0 {
+        return Ok(line);
+    }
+    let properties = tree.property_count();
+    write!(line, "{properties} ")?;
+    if tree.has(0, prop) {
+        write!(line, "has ")?;
+    }
+    match tree.cells(alloc, 0, prop)? {
+        Some(cells) => {
+            for cell in &cells {
+                write_cell(&mut line, &tree, cell)?;
+            }
+        }
+        None => write!(line, "- ")?,
+    }
+    match tree.strings(alloc, 0, prop)? {
+        Some(strings) => {
+            for string in &strings {
+                for b in string {
+                    line.push(*b as char)?;
+                }
+                line.push('|')?;
+            }
+        }
+        None => write!(line, "-")?,
+    }
+    Ok(line)
+}
+
+fn write_cell(line: &mut String, tree: &Tree, cell: &Cell) -> Result<(), AllocError> {
+    match *cell {
+        Cell::Num(n) => write!(line, "{n}")?,
+        Cell::Node(node) => write!(line, "&{node}")?,
+    }
+    match tree.target(cell) {
+        Some(node) => write!(line, ">{node} ")?,
+        None => write!(line, " ")?,
+    }
+    Ok(())
+}
+
+const VALUES: [(&[u8], &[u8], &str); 17] = [
+    (b"/dts-v1/; / { a; a = <1>; };", b"a", "1 has 1 -"),
+    (b"/dts-v1/; / { a = <1>; a; };", b"a", "1 has "),
+    (b"/dts-v1/; / { a = <1>; };", b"b", "1 - -"),
+    (b"/dts-v1/; / { b; };", b"c", "1 - -"),
+    (b"/dts-v1/;", b"", "0 - -"),
+    (b"/dts-v1/; / { a = <>; };", b"a", "1 has -"),
+    (
+        b"/dts-v1/; / { a = <0x1F 017 9UL>, <4294967295>; };",
+        b"a",
+        "1 has 31 15 9 4294967295 -",
+    ),
+    (b"/dts-v1/; / { a = <1>, \"s\"; };", b"a", "1 has - -"),
+    (b"/dts-v1/; / { a = \"s\", <1>; };", b"a", "1 has - -"),
+    (b"/dts-v1/; / { a = [00]; };", b"a", "1 has - -"),
+    (b"/dts-v1/; / { a = &x; x: b { }; };", b"a", "1 has - -"),
+    (b"/dts-v1/; / { a = \"\"; };", b"a", "1 has - |"),
+    (
+        b"/dts-v1/; / { a = \"s t\", \"q\\\"\\\\\\n\\t\"; };",
+        b"a",
+        "1 has - s t|q\"\\\n\t|",
+    ),
+    (
+        b"/dts-v1/; / { a = <1 &x &y>; c { }; x: b { y: d { }; }; };",
+        b"a",
+        "1 has 1 &2>2 &3>3 -",
+    ),
+    (
+        b"/dts-v1/; / { a = <7>; b { phandle = <8>; c { phandle = <7>; }; }; d { phandle = <7>; }; };",
+        b"a",
+        "4 has 7>2 -",
+    ),
+    (
+        b"/dts-v1/; / { a = <7>; b { phandle = <7 7>; }; c { phandle = <7>, <>; }; d { phandle = \"7\"; }; };",
+        b"a",
+        "4 has 7 -",
+    ),
+    (
+        b"/dts-v1/; / { a = <1>; b { a = <2>; }; }; / { b = <3>; a = <4>; };",
+        b"a",
+        "3 has 4 -",
+    ),
+];
+
+#[test]
+fn values_of_the_root(rt: HostRuntime) -> Result<(), Fail> {
+    for (text, prop, expected) in VALUES {
+        let line = shown_values(rt.alloc(), text, prop)?;
         assert_eq!(rt; line.as_str(), expected);
     }
     Ok(())

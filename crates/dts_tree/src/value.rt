@@ -49,7 +49,7 @@ fn is_text(kind: Kind) -> bool
     matches!(kind, Kind::Text)
 }
 
-fn number_at(text: &[u8], token: &Token) -> u32
+pub(crate) fn number_at(text: &[u8], token: &Token) -> u32
     ensures { result ≡ held.number_at text.now token.now }
 {
     match number_of(bytes_of(text, token)) {

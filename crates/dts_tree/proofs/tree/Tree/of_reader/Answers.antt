@@ -1,9 +1,10 @@
-use Rattle.std.proofs.Common.{◌≡◌, ◌<◌, ◌∙◌, ℕ, List, ap, sym, length, map, get_or, nat_eq, arith}
+use Rattle.std.proofs.Common.{[], ◌≡◌, ◌<◌, ◌∙◌, ℕ, List, ap, sym, length, map, get_or, nat_eq, arith}
 use Rattle.std.specs.List.{position_or_len}
 use Rattle.dts_tree.specs.Tree.{kept_tree, AreNamed}
 use Rattle.dts_tree.specs.Reader.{path_at}
 use Rattle.dts_tree.specs.Settled.{first_place, values_of}
 use Rattle.dts_tree.proofs.SettleLemmas.{settled-tree}
+use Rattle.dts_tree.proofs.TreeLookLemmas.{below_values}
 use Rattle.dts_tree.proofs.tree.Tree.of_reader.Goals as goal
 
 pub invariant_of-result : goal.invariant_of-result
@@ -17,6 +18,9 @@ invariant_of-result c =
       long_places = c.in_ok-places.ensures.long ∙ c.len-count.ensures.len;
       bytes = λ i. omega (arith, c.type_inv.text i);
       root = c.len-count.ensures.root;
+      found = c.requires.firsts;
+      values_below = rw c.in_ok-values.ensures (below_values (length nodes) c.as_slice-3.result.now [] tt (rw c.as_slice-3.ensures.value c.requires.standing.settings));
+      labels_below = c.requires.standing.labels;
       named = c.requires.named;
     })
 
