@@ -26,3 +26,5 @@ mod sessions;
 mod times;
 #[cfg(test)]
 mod tokens;
+#[cfg(test)]
+mod trees;

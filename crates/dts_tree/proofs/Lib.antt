@@ -1,0 +1,16 @@
+pub mod NamedLemmas
+pub mod NamesLemmas
+pub mod NumberedLemmas
+pub mod OrderLemmas
+pub mod OutlineLemmas
+pub mod ReaderLemmas
+pub mod RenameLemmas
+pub mod SettleLemmas
+pub mod SettledLemmas
+pub mod ShapeLemmas
+pub mod SayingLemmas
+pub mod TreeLemmas
+pub mod TreeLookLemmas
+pub mod TextReadingLemmas
+pub mod TurnLemmas
+pub mod ValueLemmas

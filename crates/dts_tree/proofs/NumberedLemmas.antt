@@ -1,0 +1,223 @@
+-- A new key behind keys that tell all nodes apart.
+use Rattle.std.proofs.Common.{◌≡◌, ℕ, ◌+◌, ◌-◌, ◌<◌, ◌≤◌, List, [], ◌∷◌, ◌++◌, Bool, true, false, ◌&&◌, cond, inl, inr, length, map, get_or, Option, Some, None, nat_lt, refl, sym, ap, ◌∙◌, subst, nat_eq, not, add-one, arith}
+use Rattle.std.proofs.Math.Logic.{⊎_elim}
+use Rattle.std.specs.List.{position_or_len, position, list_any}
+use Rattle.std.specs.Cmp.Lexicographic.{pointwise}
+use Rattle.std.proofs.lemmas.Bool.{cases_eq, cases_lt, lt-ltb, le-ltb, or_parts, ltb-true, cases_Bool, cond-true, cond-false, false_from_ne_true, eq-eqb, ne_eqb, eqb-true, and_parts, and_left, and_right}
+use Rattle.std.proofs.lemmas.List.{get_or_append_left, get_or_push, length_push, map-append, get_or-map, length-map, get_or_read}
+use Rattle.std.proofs.lemmas.List.Folds.{position_or_len_push}
+use Rattle.std.proofs.lemmas.List.Sums.{position_or_len_is, prefix_len-le-length}
+use Rattle.std.proofs.lemmas.Slice.Eq.{bytes_eq-Decides}
+use Rattle.dts_tree.specs.Path.{number_of, with_path, paths_behind, paths_of}
+use Rattle.dts_tree.specs.Numbered.{same_key, Paths, Numbered}
+
+paths_behind-push : (paths : List (List ℕ)) (keys : List (ℕ × ℕ)) (k : ℕ × ℕ) → paths_behind paths (keys ++ k ∷ []) ≡ paths_behind paths keys ++ (k.1 ∷ get_or (paths_behind paths keys) k.0 []) ∷ []
+paths_behind-push paths [] k = refl
+paths_behind-push paths (j ∷ ks) k = paths_behind-push (paths ++ (j.1 ∷ get_or paths j.0 []) ∷ []) ks k
+
+pub paths_of-push : (keys : List (ℕ × ℕ)) (k : ℕ × ℕ) → paths_of (keys ++ k ∷ []) ≡ paths_of keys ++ (k.1 ∷ get_or (paths_of keys) k.0 []) ∷ []
+unfolding paths_of
+paths_of-push keys k = paths_behind-push ([] ∷ []) keys k
+
+-- ---- the place of an item in a list with one more
+pub pushed_new : {X : Type 0} (p : X → Bool) (xs : List X) (y : X) → position_or_len p xs ≡ length xs → p y ≡ true → position_or_len p (xs ++ y ∷ []) ≡ length xs
+pushed_new p xs y none here = rw (position_or_len_push p xs y, here) (cond-true _ (length xs + 0) (position_or_len p xs) (eq-eqb (position_or_len p xs) (length xs) none) ∙ omega arith)
+
+pub pushed_none : {X : Type 0} (p : X → Bool) (xs : List X) (y : X) → position_or_len p xs ≡ length xs → p y ≡ false → position_or_len p (xs ++ y ∷ []) ≡ length xs + 1
+pushed_none p xs y none here = rw (position_or_len_push p xs y, here) (cond-true _ (length xs + 1) (position_or_len p xs) (eq-eqb (position_or_len p xs) (length xs) none))
+
+pub pushed_old : {X : Type 0} (p : X → Bool) (xs : List X) (y : X) → position_or_len p xs < length xs → position_or_len p (xs ++ y ∷ []) ≡ position_or_len p xs
+pushed_old p xs y old = rw (position_or_len_push p xs y) (cond-false _ (length xs + cond (p y) 0 1) (position_or_len p xs) (ne_eqb (position_or_len p xs) (length xs) (λ e. omega (arith, e))))
+
+-- two lists, of which one has an item more in front
+pushed_both : {X Y : Type 0} (p : X → Bool) (q : Y → Bool) (xs : List X) (ys : List Y) (x : X) (y : Y) → length xs ≡ 1 + length ys → position_or_len p xs ≡ 1 + position_or_len q ys → p x ≡ q y → position_or_len p (xs ++ x ∷ []) ≡ 1 + position_or_len q (ys ++ y ∷ [])
+pushed_both p q xs ys x y long same here =
+    rw (position_or_len_push p xs x, position_or_len_push q ys y, here, same)
+    (⊎_elim
+    (λ e. rw (cond-true _ (length xs + cond (q y) 0 1) (1 + position_or_len q ys) (eq-eqb (1 + position_or_len q ys) (length xs) (omega (arith, e))), cond-true _ (length ys + cond (q y) 0 1) (position_or_len q ys) (eq-eqb _ _ e)) (omega arith))
+    (λ n. rw (cond-false _ (length xs + cond (q y) 0 1) (1 + position_or_len q ys) (ne_eqb (1 + position_or_len q ys) (length xs) (λ e. n (omega (arith, e)))), cond-false _ (length ys + cond (q y) 0 1) (position_or_len q ys) (ne_eqb _ _ n)) refl)
+    (cases_eq (position_or_len q ys) (length ys)))
+
+-- ---- equal paths
+path_eq-refl : (p : List ℕ) → pointwise nat_eq p p ≡ true
+path_eq-refl p = (bytes_eq-Decides p p).1 refl
+
+path_eq-ne : (p q : List ℕ) → (p ≡ q → ⊥) → pointwise nat_eq p q ≡ false
+path_eq-ne p q ne = false_from_ne_true _ (λ e. ne ((bytes_eq-Decides p q).0 e))
+
+path_eq-child : (n : ℕ) (q : List ℕ) → pointwise nat_eq (n ∷ q) q ≡ false
+path_eq-child n q = path_eq-ne (n ∷ q) q (λ e. omega (arith, ap length e))
+
+module _ (keys : List (ℕ × ℕ)) (paths : List (List ℕ)) (h : Paths keys paths) where
+  pub path_eq-numbers : (p r : ℕ) → p < length paths → r < length paths → pointwise nat_eq (get_or paths p []) (get_or paths r []) ≡ nat_eq p r
+  path_eq-numbers p r in_p in_r =
+      ⊎_elim
+      (λ e. subst (λ (s : ℕ). pointwise nat_eq (get_or paths p []) (get_or paths s []) ≡ nat_eq p s) e (path_eq-refl (get_or paths p []) ∙ sym (eq-eqb p p refl)))
+      (λ n. path_eq-ne _ _ (λ e. n (sym (h.distinct p in_p) ∙ (ap (number_of nat_eq paths) e ∙ h.distinct r in_r))) ∙ sym (ne_eqb p r n))
+      (cases_eq p r)
+
+  and_flip : (a b : Bool) → (a && b) ≡ (b && a)
+  and_flip true true = refl
+  and_flip true false = refl
+  and_flip false true = refl
+  and_flip false false = refl
+
+  module _ (k : ℕ × ℕ) (inside : k.0 < length paths) (new : position_or_len (same_key k) keys ≡ length keys) where
+    path : List ℕ
+    path = k.1 ∷ get_or paths k.0 []
+
+    absent : number_of nat_eq paths (k.1 ∷ get_or paths k.0 []) ≡ length paths
+    absent = h.found k.0 k.1 inside ∙ (ap (λ n. 1 + n) new ∙ sym h.each)
+
+    push_earlier : (j : ℕ) → j < length (keys ++ k ∷ []) → (get_or (keys ++ k ∷ []) j (0, 0)).0 ≤ j
+    push_earlier j in_j =
+        ⊎_elim
+        (λ old. rw (get_or_append_left keys (k ∷ []) (0, 0) j old) (h.earlier j old))
+        (λ past. rw (get_or_push keys k (0, 0) j (omega (arith, length_push keys k))) (omega (arith, length_push keys k, h.each)))
+        (cases_lt j (length keys))
+
+    push_child : (j : ℕ) → j < length (keys ++ k ∷ []) → get_or (paths ++ (k.1 ∷ get_or paths k.0 []) ∷ []) (j + 1) [] ≡ (get_or (keys ++ k ∷ []) j (0, 0)).1 ∷ get_or (paths ++ (k.1 ∷ get_or paths k.0 []) ∷ []) (get_or (keys ++ k ∷ []) j (0, 0)).0 []
+    push_child j in_j =
+        ⊎_elim
+        (λ old.
+        let parent : (get_or keys j (0, 0)).0 < length paths = omega (arith, h.earlier j old, h.each, old) in
+        let next : j + 1 < length paths = omega (arith, old, h.each) in
+        rw (get_or_append_left keys (k ∷ []) (0, 0) j old)
+        (get_or_append_left paths ((k.1 ∷ get_or paths k.0 []) ∷ []) [] (j + 1) next
+        ∙ (h.child j old
+        ∙ ap (λ q. (get_or keys j (0, 0)).1 ∷ q) (sym (get_or_append_left paths ((k.1 ∷ get_or paths k.0 []) ∷ []) [] (get_or keys j (0, 0)).0 parent)))))
+        (λ past.
+        let last : length keys ≡ j = omega (arith, past, in_j, length_push keys k) in
+        let next : length paths ≡ j + 1 = omega (arith, last, h.each) in
+        rw (get_or_push keys k (0, 0) j last)
+        (get_or_push paths (k.1 ∷ get_or paths k.0 []) [] (j + 1) next
+        ∙ ap (λ q. k.1 ∷ q) (sym (get_or_append_left paths ((k.1 ∷ get_or paths k.0 []) ∷ []) [] k.0 inside))))
+        (cases_lt j (length keys))
+
+    push_found : (p n : ℕ) → p < length (paths ++ (k.1 ∷ get_or paths k.0 []) ∷ []) → number_of nat_eq (paths ++ (k.1 ∷ get_or paths k.0 []) ∷ []) (n ∷ get_or (paths ++ (k.1 ∷ get_or paths k.0 []) ∷ []) p []) ≡ 1 + position_or_len (same_key (p, n)) (keys ++ k ∷ [])
+    push_found p n in_p =
+        ⊎_elim
+        (λ old.
+        rw (get_or_append_left paths ((k.1 ∷ get_or paths k.0 []) ∷ []) [] p old)
+        (pushed_both (pointwise nat_eq (n ∷ get_or paths p [])) (same_key (p, n)) paths keys (k.1 ∷ get_or paths k.0 []) k h.each (h.found p n old)
+        (ap (λ b. nat_eq n k.1 && b) (path_eq-numbers p k.0 old inside) ∙ and_flip (nat_eq n k.1) (nat_eq p k.0))))
+        (λ past.
+        let is : length paths ≡ p = omega (arith, length_push paths (k.1 ∷ get_or paths k.0 [])) in
+        rw (get_or_push paths (k.1 ∷ get_or paths k.0 []) [] p is)
+        (pushed_both (pointwise nat_eq (n ∷ k.1 ∷ get_or paths k.0 [])) (same_key (p, n)) paths keys (k.1 ∷ get_or paths k.0 []) k h.each
+        (h.closed n (k.1 ∷ get_or paths k.0 []) absent ∙ (h.each ∙ ap (λ m. 1 + m) (sym (position_or_len_is (same_key (p, n)) keys (length keys) (0, 0) (omega arith)
+        (λ j in_j. and_left _ _ (ne_eqb p _ (λ e. omega (arith, e, h.earlier j in_j, h.each))))
+        (λ more. absurd (omega (arith, more)))))))
+        (path_eq-child n (k.1 ∷ get_or paths k.0 []) ∙ sym (and_left (nat_eq p k.0) (nat_eq n k.1) (ne_eqb p k.0 (λ e. omega (arith, e)))))))
+        (cases_lt p (length paths))
+
+    push_distinct : (j : ℕ) → j < length (paths ++ (k.1 ∷ get_or paths k.0 []) ∷ []) → number_of nat_eq (paths ++ (k.1 ∷ get_or paths k.0 []) ∷ []) (get_or (paths ++ (k.1 ∷ get_or paths k.0 []) ∷ []) j []) ≡ j
+    push_distinct j in_j =
+        ⊎_elim
+        (λ old. rw (get_or_append_left paths ((k.1 ∷ get_or paths k.0 []) ∷ []) [] j old)
+        (pushed_old (pointwise nat_eq (get_or paths j [])) paths (k.1 ∷ get_or paths k.0 []) (rw (h.distinct j old) old) ∙ h.distinct j old))
+        (λ past.
+        let is : length paths ≡ j = omega (arith, length_push paths (k.1 ∷ get_or paths k.0 [])) in
+        rw (get_or_push paths (k.1 ∷ get_or paths k.0 []) [] j is)
+        (pushed_new (pointwise nat_eq (k.1 ∷ get_or paths k.0 [])) paths (k.1 ∷ get_or paths k.0 []) absent (path_eq-refl (k.1 ∷ get_or paths k.0 [])) ∙ is))
+        (cases_lt j (length paths))
+
+    push_closed : (n : ℕ) (q : List ℕ) → number_of nat_eq (paths ++ (k.1 ∷ get_or paths k.0 []) ∷ []) q ≡ length (paths ++ (k.1 ∷ get_or paths k.0 []) ∷ []) → number_of nat_eq (paths ++ (k.1 ∷ get_or paths k.0 []) ∷ []) (n ∷ q) ≡ length (paths ++ (k.1 ∷ get_or paths k.0 []) ∷ [])
+    push_closed n q none =
+        let long = length_push paths (k.1 ∷ get_or paths k.0 []) in
+        ⊎_elim
+        (λ old. absurd (omega (arith, old, long, none, pushed_old (pointwise nat_eq q) paths (k.1 ∷ get_or paths k.0 []) old)))
+        (λ past.
+        let gone : number_of nat_eq paths q ≡ length paths = omega (arith, past, prefix_len-le-length (λ x. not (pointwise nat_eq q x)) paths) in
+        let other : pointwise nat_eq (n ∷ q) (k.1 ∷ get_or paths k.0 []) ≡ false =
+        and_right (nat_eq n k.1) (pointwise nat_eq q (get_or paths k.0 [])) (path_eq-ne q (get_or paths k.0 [])
+        (λ e. omega (arith, gone, inside, ap (number_of nat_eq paths) e, h.distinct k.0 inside))) in
+        pushed_none (pointwise nat_eq (n ∷ q)) paths (k.1 ∷ get_or paths k.0 []) (h.closed n q gone) other ∙ sym long)
+        (cases_lt (number_of nat_eq paths q) (length paths))
+
+    pub paths_push : Paths (keys ++ k ∷ []) (paths ++ (k.1 ∷ get_or paths k.0 []) ∷ [])
+    paths_push = record {
+      each = omega (arith, h.each, length_push keys k, length_push paths (k.1 ∷ get_or paths k.0 []));
+      earlier = push_earlier;
+      found = push_found;
+      distinct = push_distinct;
+      child = push_child;
+      root = get_or_append_left paths ((k.1 ∷ get_or paths k.0 []) ∷ []) [] 0 (omega (arith, h.each)) ∙ h.root;
+      closed = push_closed;
+    }
+
+-- a key that isn't there yet
+pub numbered_push : (keys : List (ℕ × ℕ)) (depths : List ℕ) (k : ℕ × ℕ) → Numbered keys depths → k.0 < length (paths_of keys) → position_or_len (same_key k) keys ≡ length keys → Numbered (keys ++ k ∷ []) (depths ++ (get_or depths k.0 0 + 1) ∷ [])
+numbered_push keys depths k h inside new = record {
+  paths = rw (paths_of-push keys k) (paths_push keys (paths_of keys) h.paths k inside new);
+  deep =
+      let at : get_or depths k.0 0 ≡ length (get_or (paths_of keys) k.0 []) = ap (λ ds. get_or ds k.0 0) h.deep ∙ get_or-map length (paths_of keys) k.0 [] 0 inside in
+      rw (paths_of-push keys k, map-append length (paths_of keys) ((k.1 ∷ get_or (paths_of keys) k.0 []) ∷ []), at, add-one, h.deep) refl;
+}
+
+-- ---- what the look-up of a key says
+none_position : {X : Type 0} (p : X → Bool) (xs : List X) → list_any p xs ≡ false → position_or_len p xs ≡ length xs
+none_position p [] none = refl
+none_position p (x ∷ xs) none =
+    let h = or_parts (p x) (list_any p xs) none in
+    rw (h.0, none_position p xs h.1) (omega arith)
+
+position_at : {X : Type 0} (p : X → Bool) (xs : List X) (i : ℕ) → position p xs ≡ Some i → position_or_len p xs ≡ i
+position_at p xs i is =
+    elim (cases_Bool (nat_lt (position_or_len p xs) (length xs))) [
+      | inl within ↦ (let found : Some (position_or_len p xs) ≡ Some i = sym (cond-true _ (Some (position_or_len p xs)) None within) ∙ is in cc)
+      | inr past ↦ (let none : None ≡ Some i = sym (cond-false _ (Some (position_or_len p xs)) None past) ∙ is in cc)
+    ]
+
+-- a child that is there
+pub child_known : (keys : List (ℕ × ℕ)) (paths : List (List ℕ)) (p n at : ℕ) → Paths keys paths → p < length paths → at < length keys → position (same_key (p, n)) keys ≡ Some at → (paths ≡ with_path nat_eq paths (n ∷ get_or paths p [])) × (at + 1 ≡ number_of nat_eq paths (n ∷ get_or paths p []))
+child_known keys paths p n at h inside within is =
+    let here : number_of nat_eq paths (n ∷ get_or paths p []) ≡ 1 + at = h.found p n inside ∙ ap (λ m. 1 + m) (position_at (same_key (p, n)) keys at is) in
+    (sym (cond-true _ paths (paths ++ (n ∷ get_or paths p []) ∷ []) (lt-ltb (number_of nat_eq paths (n ∷ get_or paths p [])) (length paths) (omega (arith, here, h.each)))), omega (arith, here))
+
+-- a child that isn't there
+pub child_new : (keys : List (ℕ × ℕ)) (paths : List (List ℕ)) (p n : ℕ) → Paths keys paths → p < length paths → list_any (same_key (p, n)) keys ≡ false → (paths ++ (n ∷ get_or paths p []) ∷ [] ≡ with_path nat_eq paths (n ∷ get_or paths p [])) × (length paths ≡ number_of nat_eq paths (n ∷ get_or paths p []))
+child_new keys paths p n h inside none =
+    let here : number_of nat_eq paths (n ∷ get_or paths p []) ≡ 1 + length keys = h.found p n inside ∙ ap (λ m. 1 + m) (none_position (same_key (p, n)) keys none) in
+    (sym (cond-false _ paths (paths ++ (n ∷ get_or paths p []) ∷ []) (le-ltb (number_of nat_eq paths (n ∷ get_or paths p [])) (length paths) (omega (arith, here, h.each)))), omega (arith, here, h.each))
+
+-- the keys behind which one that isn't there was put
+pub numbered_new : (keys : List (ℕ × ℕ)) (depths : List ℕ) (k : ℕ × ℕ) → Numbered keys depths → k.0 < length (paths_of keys) → list_any (same_key k) keys ≡ false → Numbered (keys ++ k ∷ []) (depths ++ (get_or depths k.0 0 + 1) ∷ [])
+numbered_new keys depths k h inside none = numbered_push keys depths k h inside (none_position (same_key k) keys none)
+
+-- the root alone
+pub numbered_root : Numbered [] (0 ∷ [])
+unfolding paths_of
+numbered_root = record {
+  paths = record {
+    each = refl;
+    earlier = λ k h. absurd (omega (arith, h));
+    found = λ p n h. refl;
+    distinct = λ k h. (let is : 0 ≡ k = omega (arith, h) in subst (λ (j : ℕ). number_of nat_eq ([] ∷ []) (get_or ([] ∷ []) j []) ≡ j) is refl);
+    child = λ k h. absurd (omega (arith, h));
+    root = refl;
+    closed = λ n q e. refl;
+  };
+  deep = refl;
+}
+
+pub paths_of-none : paths_of [] ≡ [] ∷ []
+unfolding paths_of
+paths_of-none = refl
+
+pub none_long : {X : Type 0} (xs : List X) → length xs ≡ 0 → xs ≡ []
+none_long [] h = refl
+none_long (x ∷ xs) h = absurd (omega (arith, h))
+
+pub depths_long : (keys : List (ℕ × ℕ)) (depths : List ℕ) → Numbered keys depths → length depths ≡ length (paths_of keys)
+depths_long keys depths h = ap length h.deep ∙ length-map (paths_of keys) length
+
+pub depth_at : (keys : List (ℕ × ℕ)) (depths : List ℕ) (k x : ℕ) → Numbered keys depths → k < length (paths_of keys) → x ≡ get_or depths k x → x ≡ get_or depths k 0
+depth_at keys depths k x h inside is = get_or_read depths k x (rw (depths_long keys depths h) inside) is 0
+
+-- the key of a node that isn't the root
+pub key-path : (keys : List (ℕ × ℕ)) (paths : List (List ℕ)) (node : ℕ) (k : ℕ × ℕ) → Paths keys paths → 0 < node → node < length paths → k ≡ get_or keys (node - 1) (0, 0) → (get_or paths node [] ≡ k.1 ∷ get_or paths k.0 []) × (k.0 < node)
+key-path keys paths node k h some inside is =
+    let at : node - 1 + 1 ≡ node = omega (arith, some) in
+    let within : node - 1 < length keys = omega (arith, some, inside, h.each) in
+    (rw is (ap (λ (n : ℕ). get_or paths n []) (sym at) ∙ h.child (node - 1) within), rw is (omega (arith, h.earlier (node - 1) within, some)))

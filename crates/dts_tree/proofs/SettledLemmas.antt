@@ -1,0 +1,38 @@
+-- What settings come to, one setting more in front.
+use Rattle.std.proofs.Common.{◌≡◌, ℕ, ◌+◌, ◌<◌, ◌≤◌, List, [], ◌∷◌, ◌++◌, cond, length, get_or, set, nat_eq, refl, sym, ap, ◌∙◌, arith}
+use Rattle.std.proofs.Math.Logic.{⊎_elim}
+use Rattle.std.proofs.lemmas.Bool.{cases_eq, cases_lt, cond-true, cond-false, eq-eqb, ne_eqb}
+use Rattle.std.proofs.lemmas.List.{length-set, get_or-set_same, get_or-set_other, get_or_append_left, get_or_push, length_push}
+use Rattle.dts_tree.specs.declared.setting.Setting.{Setting}
+use Rattle.dts_tree.specs.declared.setting.Setting.TheVariants.{Opens, Sets}
+use Rattle.dts_tree.specs.Settled.{first_place, with_place}
+
+pub with_place-length : (places : List ℕ) (s : Setting ℕ ℕ) → length (with_place places s) ≡ length places
+with_place-length places (Opens node at) = length-set places node at
+with_place-length places (Sets node name from to) = refl
+
+pub place-step : (places : List ℕ) (s : Setting ℕ ℕ) (ss : List (Setting ℕ ℕ)) (k : ℕ) → k < length places → get_or places k 0 ≡ first_place (nat_eq k) ss → get_or (with_place places s) k 0 ≡ first_place (nat_eq k) (s ∷ ss)
+place-step places (Opens node at) ss k inside h =
+    ⊎_elim
+    (λ e. ap (λ (n : ℕ). get_or (set places n at) k 0) (sym e) ∙ (get_or-set_same places k at 0 inside ∙ sym (cond-true (nat_eq k node) at (first_place (nat_eq k) ss) (eq-eqb k node e))))
+    (λ n. get_or-set_other places node k at 0 n ∙ (h ∙ sym (cond-false (nat_eq k node) at (first_place (nat_eq k) ss) (ne_eqb k node n))))
+    (cases_eq k node)
+place-step places (Sets node name from to) ss k inside h = h
+
+-- the parents of one node more
+pub record Parents (paths : List (List ℕ)) (parents : List ℕ) (n : ℕ) : Type 0 where
+  pub child : (j : ℕ) → 1 ≤ j → j < n → (name : ℕ) × (get_or paths j [] ≡ name ∷ get_or paths (get_or parents j 0) [])
+  pub earlier : (j : ℕ) → 1 ≤ j → j < n → get_or parents j 0 < j
+
+pub parents-push : (paths : List (List ℕ)) (parents : List ℕ) (p name : ℕ) → Parents paths parents (length parents) → get_or paths (length parents) [] ≡ name ∷ get_or paths p [] → p < length parents → Parents paths (parents ++ p ∷ []) (length parents + 1)
+parents-push paths parents p name h is below = record {
+  child = λ j low in_j. ⊎_elim
+      (λ old. let k = h.child j low old in (k.0, k.1 ∙ ap (λ q. k.0 ∷ get_or paths q []) (sym (get_or_append_left parents (p ∷ []) 0 j old))))
+      (λ past. let e : length parents ≡ j = omega (arith, past, in_j) in
+      (name, ap (λ (i : ℕ). get_or paths i []) (sym e) ∙ (is ∙ ap (λ q. name ∷ get_or paths q []) (sym (get_or_push parents p 0 j e)))))
+      (cases_lt j (length parents));
+  earlier = λ j low in_j. ⊎_elim
+      (λ old. rw (get_or_append_left parents (p ∷ []) 0 j old) (h.earlier j low old))
+      (λ past. let e : length parents ≡ j = omega (arith, past, in_j) in rw (get_or_push parents p 0 j e) (omega (arith, e, below)))
+      (cases_lt j (length parents));
+}

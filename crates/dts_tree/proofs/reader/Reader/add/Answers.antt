@@ -1,0 +1,32 @@
+use Rattle.std.proofs.Common.{◌≡◌, ◌<◌, ◌∙◌, ◌∷◌, [], Some, None, ap, sym, length, nat_eq, refl}
+use Rattle.std.proofs.lemmas.List.{reverse-append}
+use Rattle.std.specs.Map.{lookup}
+use Rattle.std.specs.Option.{option_map}
+use Rattle.dts_tree.specs.Reading.{added}
+use Rattle.dts_tree.specs.Reader.{reading, label_at, path_at}
+use Rattle.dts_tree.proofs.ReaderLemmas.{lookup-labels, lookup-below}
+use Rattle.dts_tree.proofs.reader.Reader.add.Goals as goal
+
+pub returns-in_default-clause-fault : goal.returns-in_default-clause-fault
+returns-in_default-clause-fault c = λ _.
+    let self = c.args.self.now in
+    ap (added nat_eq (reading self) c.args.at) (lookup-labels self.nodes c.args.label self.labels.entries ∙ ap (option_map (path_at self.nodes)) (sym c.in_default.ensures.value))
+
+pub returns-clause-standing : goal.returns-clause-standing
+returns-clause-standing c =
+    let self = c.args.self.now in
+    let inside : c.in-Some.node.now < length self.nodes = lookup-below (length self.nodes) c.in-Some.node.now c.args.label self.labels.entries c.requires.labels (sym c.in-Some.ensures.value) in
+    record {
+      some = c.requires.some;
+      root = c.requires.root;
+      shallow = c.requires.shallow;
+      bodies = rw (c.in_ok-push.ensures.items, reverse-append self.bodies.items (c.in-Some.node.now ∷ [])) (inside, c.requires.bodies);
+      labels = c.requires.labels;
+      settings = c.requires.settings;
+    }
+
+pub returns-clause-ok : goal.returns-clause-ok
+returns-clause-ok c =
+    let self = c.args.self.now in
+    ap (added nat_eq (reading self) c.args.at) (lookup-labels self.nodes c.args.label self.labels.entries ∙ ap (option_map (path_at self.nodes)) (sym c.in-Some.ensures.value))
+    ∙ rw (c.in_ok-push.ensures.items, reverse-append self.bodies.items (c.in-Some.node.now ∷ [])) refl

@@ -1,0 +1,2 @@
+use Rattle.std.proofs.Common.{◌≡◌}
+use Rattle.dts_tree.proofs.reader.Reader.elsewhere.Goals as goal

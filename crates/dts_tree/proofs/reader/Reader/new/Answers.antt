@@ -1,0 +1,10 @@
+use Rattle.std.proofs.Common.{refl}
+use Rattle.dts_tree.specs.Reading.{nothing_read}
+use Rattle.dts_tree.proofs.NumberedLemmas.{none_long}
+use Rattle.dts_tree.proofs.reader.Reader.new.Goals as goal
+
+pub returns-clause-start : goal.returns-clause-start
+unfolding nothing_read
+returns-clause-start c =
+    let none = none_long c.new-3.result.entries c.new-3.ensures.len in
+    rw (c.in_ok-new.ensures, c.new-2.ensures.items, none, c.new-4.ensures.items, c.new-5.ensures.items) refl

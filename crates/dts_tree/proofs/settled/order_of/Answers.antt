@@ -1,0 +1,18 @@
+use Rattle.std.proofs.Common.{◌≡◌, ◌∙◌, ap, map, length}
+use Rattle.std.proofs.lemmas.Result.{IfOk-weaker}
+use Rattle.dts_tree.specs.Reader.{path_at}
+use Rattle.dts_tree.specs.Order.{in_tree_order}
+use Rattle.dts_tree.proofs.ShapeLemmas.{order-paths}
+use Rattle.dts_tree.proofs.settled.order_of.Goals as goal
+
+pub returns-clause-order : goal.returns-clause-order
+returns-clause-order c =
+    let nodes = c.args.nodes.now in
+    IfOk-weaker c.tree_order.result _ _ (λ order h.
+    ap (map (path_at nodes)) (h ∙ ap in_tree_order c.as_slice.ensures.value)
+    ∙ order-paths nodes c.in_ok-parents.parents.items c.in_ok-parents.ensures c.requires.shallow c.len-count.ensures.apart c.requires.some) c.tree_order.ensures.order
+
+pub returns-clause-inside : goal.returns-clause-inside
+returns-clause-inside c =
+    let long = ap length c.as_slice.ensures.value ∙ c.in_ok-parents.ensures.long in
+    IfOk-weaker c.tree_order.result _ _ (λ order h. rw (← long) h) c.tree_order.ensures.inside

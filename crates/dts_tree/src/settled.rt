@@ -1,0 +1,121 @@
+ghost use Rattle.std.specs.Prelude.{◌≡◌, ℕ, ◌<◌, ◌≤◌, ◌^◌, [], length, map, IfOk, OnOk, nat_eq, slice_index, slice_index_or};
+ghost use Rattle.std.specs.List.{position_or_len};
+ghost use Rattle.dts_tree.specs.Path.{with_path};
+ghost use Rattle.dts_tree.specs.Reader.{path_at, AllBelow};
+ghost use Rattle.dts_tree.specs.Shape.{tree_order_of, ParentsOf};
+ghost use Rattle.dts_tree.specs.Settled.{first_place, values_of, with_value, with_place};
+
+use crate::nodes::Nodes;
+use crate::order::tree_order;
+use crate::setting::Setting;
+use indexmap::IndexMap;
+use std::alloc::{AllocError, Global};
+
+/// The numbers of the nodes in tree order.
+pub(crate) fn order_of(alloc: Global, nodes: &Nodes) -> Result<Vec<u32>, AllocError>
+    requires some { 0 < length nodes.now }
+    requires few { length nodes.now ≤ 2 ^ 32 }
+    requires shallow { (k : ℕ) → length (path_at nodes.now k) ≤ 32 }
+    ensures order { IfOk result (λ order. map (path_at nodes.now) order.items ≡ tree_order_of nat_eq nodes.now) }
+    ensures inside { IfOk result (λ order. AllBelow (length nodes.now) order.items) }
+{
+    let _count = nodes.len();
+    let parents = parents_of(alloc, nodes)?;
+    tree_order(alloc, parents.as_slice())
+}
+
+fn parents_of(alloc: Global, nodes: &Nodes) -> Result<Vec<u32>, AllocError>
+    requires some { 0 < length nodes.now }
+    requires few { length nodes.now ≤ 2 ^ 32 }
+    ensures { IfOk result (λ parents. ParentsOf nodes.now parents.items) }
+{
+    let mut parents = Vec::new(alloc);
+    parents.push(0)?;
+    let count = nodes.len();
+    let mut node = 1;
+    while node < count {
+        let (parent, _) = nodes.key(node as u32);
+        parents.push(parent)?;
+        node += 1;
+    }
+    Ok(parents)
+}
+
+/// Where each number below `count` stands first in the order, and the order's length for one that
+/// doesn't.
+pub(crate) fn ranks_of(alloc: Global, order: &[u32], count: usize) -> Result<Vec<u32>, AllocError>
+    requires { length order.now < 2 ^ 32 }
+    ensures long { IfOk result (λ ranks. length ranks.items ≡ count) }
+    ensures ranks { IfOk result (λ ranks. (k : ℕ) → k < count → slice_index ranks.items k ≡ position_or_len (nat_eq k) order.now) }
+{
+    let mut ranks = vec![in alloc; order.len() as u32; count]?;
+    let mut at = order.len();
+    while at > 0 {
+        at -= 1;
+        let node = order[at] as usize;
+        if node < count {
+            ranks[node] = at as u32;
+        }
+    }
+    Ok(ranks)
+}
+
+/// Where the name of each node stands that is opened first, and 0 for one that isn't opened.
+pub(crate) fn places_of(
+    alloc: Global,
+    settings: &[Setting<u32, u32>],
+    count: usize,
+) -> Result<Vec<u32>, AllocError>
+    ensures long { IfOk result (λ places. length places.items ≡ count) }
+    ensures places { IfOk result (λ places. (k : ℕ) → k < count → slice_index places.items k ≡ first_place (nat_eq k) settings.now) }
+{
+    let mut places = vec![in alloc; 0; count]?;
+    let mut left = settings.len();
+    while left > 0 {
+        left -= 1;
+        put_place(&mut places, &settings[left]);
+    }
+    Ok(places)
+}
+
+fn put_place(places: &mut Vec<u32>, setting: &Setting<u32, u32>)
+    ensures { places.new.items ≡ with_place places.old.items setting.now }
+{
+    if let Setting::Opens { node, at } = *setting {
+        if (node as usize) < places.len() {
+            places[node as usize] = at;
+        }
+    }
+}
+
+/// The values that stand in the end, by the numbers of their nodes and names.
+pub(crate) fn values_of(
+    alloc: Global,
+    settings: &[Setting<u32, u32>],
+) -> Result<IndexMap<(u32, u32), (u32, u32)>, AllocError>
+    ensures { IfOk result (λ values. values.entries ≡ values_of nat_eq nat_eq settings.now) }
+{
+    let mut values = IndexMap::new(alloc);
+    for setting in settings {
+        put_value(&mut values, setting)?;
+    }
+    Ok(values)
+}
+
+fn put_value(
+    values: &mut IndexMap<(u32, u32), (u32, u32)>,
+    setting: &Setting<u32, u32>,
+) -> Result<(), AllocError>
+    ensures { OnOk result (values.new.entries ≡ with_value nat_eq nat_eq values.old.entries setting.now) }
+{
+    if let Setting::Sets {
+        node,
+        name,
+        from,
+        to,
+    } = *setting
+    {
+        values.insert((node, name), (from, to))?;
+    }
+    Ok(())
+}

@@ -1,0 +1,214 @@
+ghost use Rattle.std.specs.Prelude.{◌≡◌, ◌<◌, ◌≤◌, ◌^◌, ℕ, List, [], length, slice_index, slice_index_or, slice_range, IfOk, IfErr};
+ghost use Rattle.std.specs.BTreeMap.{get_by};
+ghost use Rattle.std.specs.Cmp.Lexicographic.{slice_cmp};
+ghost use Rattle.std.specs.Ordering.{nat_cmp};
+ghost use Rattle.dts_tree.specs.Names.{first_with, known_before};
+ghost use Rattle.dts_tree.specs.Tree.{own_name, parent_among};
+
+use crate::fault::TreeFault;
+use crate::names::name_of;
+use crate::nodes::Nodes;
+use crate::reader::Reader;
+use crate::settled::{order_of, places_of, ranks_of, values_of};
+use dts_lex::Token;
+use indexmap::IndexMap;
+use item_list::Items;
+use std::alloc::{AllocError, Global};
+use std::collections::BTreeMap;
+use std::marker::Model;
+
+/// The tree of a devicetree text: its nodes in tree order, each before its children, and their
+/// properties. The root is node 0 and has the empty name.
+#[derive(Drop)]
+pub struct Tree {
+    text: Items<u8>,
+    tokens: Items<Token>,
+    /// The nodes as they first appeared, whose numbers the other fields have.
+    nodes: Nodes,
+    order: Items<u32>,
+    /// The place of each node in the order.
+    ranks: Items<u32>,
+    places: Items<u32>,
+    labels: IndexMap<u32, u32>,
+    values: IndexMap<(u32, u32), (u32, u32)>,
+    /// The number of each name, by its bytes.
+    firsts: BTreeMap<Vec<u8>, u32>,
+}
+
+impl Model for Tree {
+    ghost use Rattle.std.specs.BTreeMap.{get_by};
+    ghost use Rattle.std.specs.Cmp.Lexicographic.{slice_cmp};
+    ghost use Rattle.std.specs.Ordering.{nat_cmp};
+    ghost use Rattle.dts_tree.specs.Tree.{DeviceTree, kept_tree, Settled};
+
+    ghost Value = { DeviceTree };
+
+    ghost view = { λ t. kept_tree t.text t.tokens t.nodes t.order t.places t.labels.entries t.values.entries };
+
+    ghost invariant = { λ t. Settled t.text t.tokens t.nodes t.order t.ranks t.places t.labels.entries t.values.entries (λ q. get_by (λ k. slice_cmp nat_cmp q k.items) t.firsts) };
+}
+
+impl Tree {
+    ghost use Rattle.dts_tree.specs.Reader.{Standing};
+    ghost use Rattle.dts_tree.specs.TextReading.{reading_in};
+    ghost use Rattle.dts_tree.specs.Tree.{tree_of, AreNamed};
+
+    /// The tree of what was read of a text.
+    pub(crate) fn of_reader(
+        alloc: Global,
+        text: &[u8],
+        tokens: &[Token],
+        reader: Reader,
+        firsts: BTreeMap<Vec<u8>, u32>,
+    ) -> Result<Tree, TreeFault>
+        requires standing { Standing reader }
+        requires firsts { (q : List ℕ) → get_by (λ k. slice_cmp nat_cmp q k.items) firsts ≡ known_before (first_with text.now tokens.now q) (length tokens.now) }
+        requires named { AreNamed text.now tokens.now reader.nodes }
+        ensures tree { IfOk result (λ tree. tree ≡ tree_of text.now tokens.now (reading_in text.now tokens.now reader)) }
+        ensures fault { IfErr result (λ fault. fault ≡ TreeFault.Memory) }
+    {
+        let Reader {
+            nodes,
+            labels,
+            settings,
+            ..
+        } = reader;
+        let count = nodes.len();
+        // A text that is short enough for its places has fewer nodes.
+        if count > u32::MAX as usize {
+            return Err(TreeFault::Memory);
+        }
+        let order = order_of(alloc, &nodes)?;
+        if order.len() > u32::MAX as usize {
+            return Err(TreeFault::Memory);
+        }
+        let ranks = ranks_of(alloc, order.as_slice(), count)?;
+        let places = places_of(alloc, settings.as_slice(), count)?;
+        let values = values_of(alloc, settings.as_slice())?;
+        let text = copied(alloc, text)?;
+        let tokens = copied(alloc, tokens)?;
+        Ok(Tree {
+            text,
+            tokens,
+            nodes,
+            order: Items::from_vec(order),
+            ranks: Items::from_vec(ranks),
+            places: Items::from_vec(places),
+            labels,
+            values,
+            firsts,
+        })
+    }
+
+    /// How many nodes there are.
+    pub fn count(&self) -> u32
+        ensures { result ≡ length self.now.nodes }
+    {
+        self.order.len() as u32
+    }
+
+    /// How many properties the nodes have.
+    pub fn property_count(&self) -> usize
+        ensures { result ≡ length self.now.values }
+    {
+        self.values.len()
+    }
+
+    /// The name of a node.
+    pub fn name(&self, node: u32) -> &[u8]
+        requires { node < length self.now.nodes }
+        ensures { result.now ≡ own_name (slice_index_or self.now.nodes node []) }
+    {
+        let number = self.order.as_slice()[node as usize];
+        if number == 0 {
+            return b"";
+        }
+        let (_, name) = self.nodes.key(number);
+        name_of(self.text.as_slice(), &self.tokens.as_slice()[name as usize])
+    }
+
+    /// The parent of a node; None for the root.
+    pub fn parent(&self, node: u32) -> Option<u32>
+        requires { node < length self.now.nodes }
+        ensures { result ≡ parent_among self.now.nodes (slice_index_or self.now.nodes node []) }
+    {
+        let number = self.order.as_slice()[node as usize];
+        if number == 0 {
+            return None;
+        }
+        let (parent, _) = self.nodes.key(number);
+        Some(self.ranks.as_slice()[parent as usize])
+    }
+
+    /// Where the name of a node stands that is opened first, as the index of a byte; for the root its
+    /// first slash, or 0 where there is none.
+    pub fn at(&self, node: u32) -> u32
+        requires { node < length self.now.nodes }
+        ensures { result ≡ slice_index self.now.places node }
+    {
+        let number = self.order.as_slice()[node as usize];
+        self.places.as_slice()[number as usize]
+    }
+}
+
+impl Tree {
+    ghost use Rattle.std.specs.Prelude.{None, Some, MatchOption};
+    ghost use Rattle.dts_tree.specs.Tree.{value_in};
+    ghost use Rattle.dts_tree.specs.TreeValues.{node_of_label};
+
+    pub(crate) fn text(&self) -> &[u8]
+        ensures { result.now ≡ self.now.text }
+    {
+        self.text.as_slice()
+    }
+
+    /// The tokens of a property's value, where the node has the property.
+    pub(crate) fn value(&self, node: u32, prop: &[u8]) -> Option<&[Token]>
+        requires { node < length self.now.nodes }
+        ensures { MatchOption result (value_in self.now node prop.now ≡ None) (λ v. value_in self.now node prop.now ≡ Some v.now) }
+    {
+        self.nodes.apart();
+        let number = self.order.as_slice()[node as usize];
+        let Some(name) = self.firsts.get(prop) else {
+            return None;
+        };
+        match self.values.get(&(number, *name)) {
+            Some(value) => Some(tokens_between(self.tokens.as_slice(), value.0, value.1)),
+            None => None,
+        }
+    }
+
+    /// The node of a label, and the number of nodes where there is no such label.
+    pub(crate) fn node_of_label(&self, label: &[u8]) -> u32
+        ensures { result ≡ node_of_label self.now label.now }
+    {
+        self.nodes.apart();
+        let none = self.order.len() as u32;
+        let Some(name) = self.firsts.get(label) else {
+            return none;
+        };
+        match self.labels.get(name) {
+            Some(node) => self.ranks.as_slice()[*node as usize],
+            None => none,
+        }
+    }
+}
+
+/// The tokens from a place to before another, as far as there are any.
+fn tokens_between(tokens: &[Token], from: u32, to: u32) -> &[Token]
+    ensures { result.now ≡ slice_range tokens.now from to }
+{
+    let to = (to as usize).min(tokens.len());
+    let from = (from as usize).min(to);
+    &tokens[from..to]
+}
+
+fn copied<T: Copy + Drop>(alloc: Global, items: &[T]) -> Result<Items<T>, AllocError>
+    ensures { IfOk result (λ copy. copy ≡ items.now) }
+{
+    let mut copy = Items::new(alloc);
+    for item in items {
+        copy.push(*item)?;
+    }
+    Ok(copy)
+}

@@ -1,0 +1,134 @@
+ghost use Rattle.std.specs.Prelude.{◌≡◌, ◌<◌, length, map, is_some, codes, Some, IfOk};
+ghost use Rattle.std.specs.Option.{option_map};
+ghost use Rattle.std.specs.List.{position};
+ghost use Rattle.dts_tree.specs.Tree.{value_in};
+ghost use Rattle.dts_tree.specs.TreeValues.{AreCells, AreStrings, cell_in, has_phandle, is_number, one_number, target_in};
+
+use crate::cell::Cell;
+use crate::names::name_of;
+use crate::tree::Tree;
+use crate::value::{ValueCell, cells_of, number_at, strings_of};
+use dts_lex::{Kind, Token};
+use std::alloc::{AllocError, Global};
+
+impl Tree {
+    /// Whether a node has a property.
+    pub fn has(&self, node: u32, prop: &[u8]) -> bool
+        requires { node < length self.now.nodes }
+        ensures { result ≡ is_some (value_in self.now node prop.now) }
+    {
+        self.value(node, prop).is_some()
+    }
+
+    /// The cells of a property, or None where the node doesn't have it or it has a part that isn't
+    /// cells.
+    pub fn cells(
+        &self,
+        alloc: Global,
+        node: u32,
+        prop: &[u8],
+    ) -> Result<Option<Vec<Cell>>, AllocError>
+        requires { node < length self.now.nodes }
+        ensures { IfOk result (λ r. AreCells self.now (value_in self.now node prop.now) (option_map (λ v. v.items) r)) }
+    {
+        let Some(value) = self.value(node, prop) else {
+            return Ok(None);
+        };
+        match cells_of(alloc, self.text(), value)? {
+            Some(found) => {
+                let cells = self.cells_in(alloc, found.as_slice())?;
+                Ok(Some(cells))
+            }
+            None => Ok(None),
+        }
+    }
+
+    fn cells_in(&self, alloc: Global, found: &[ValueCell]) -> Result<Vec<Cell>, AllocError>
+        ensures { IfOk result (λ v. v.items ≡ map (cell_in self.now) found.now) }
+    {
+        let mut cells = Vec::new(alloc);
+        for cell in found {
+            cells.push(self.cell_in(cell))?;
+        }
+        Ok(cells)
+    }
+
+    fn cell_in(&self, cell: &ValueCell) -> Cell
+        ensures { result ≡ cell_in self.now cell.now }
+    {
+        match *cell {
+            ValueCell::Number(n) => Cell::Num(n),
+            ValueCell::Ref(token) => Cell::Node(self.node_of_label(name_of(self.text(), &token))),
+        }
+    }
+
+    /// The strings of a property, or None where the node doesn't have it or it has a part that
+    /// isn't a string.
+    pub fn strings(
+        &self,
+        alloc: Global,
+        node: u32,
+        prop: &[u8],
+    ) -> Result<Option<Vec<Vec<u8>>>, AllocError>
+        requires { node < length self.now.nodes }
+        ensures { IfOk result (λ r. AreStrings self.now (value_in self.now node prop.now) (option_map (λ v. map (λ s. s.items) v.items) r)) }
+    {
+        let Some(value) = self.value(node, prop) else {
+            return Ok(None);
+        };
+        strings_of(alloc, self.text(), value)
+    }
+
+    /// The node that a cell stands for: for a number the first in tree order that has it as its
+    /// phandle.
+    pub fn target(&self, cell: &Cell) -> Option<u32>
+        ensures { result ≡ target_in self.now cell.now }
+    {
+        match *cell {
+            Cell::Node(node) => Some(node),
+            Cell::Num(n) => self.with_phandle(n),
+        }
+    }
+
+    fn with_phandle(&self, n: u32) -> Option<u32>
+        ensures { result ≡ position (has_phandle self.now n) self.now.nodes }
+    {
+        let count = self.count();
+        let mut node = 0;
+        while node < count {
+            if self.phandle(node) == Some(n) {
+                return Some(node);
+            }
+            node += 1;
+        }
+        None
+    }
+
+    /// The number that other nodes may tell a node by.
+    fn phandle(&self, node: u32) -> Option<u32>
+        requires { node < length self.now.nodes }
+        ensures { result ≡ one_number self.now.text (value_in self.now node (codes "phandle")) }
+    {
+        match self.value(node, b"phandle".as_slice()) {
+            Some(value) => number_between(self.text(), value),
+            None => None,
+        }
+    }
+}
+
+/// The number of a value that is one cell between its brackets.
+fn number_between(text: &[u8], value: &[Token]) -> Option<u32>
+    ensures { result ≡ one_number text.now (Some value.now) }
+{
+    if value.len() == 3 && is_number(value[1].kind) {
+        Some(number_at(text, &value[1]))
+    } else {
+        None
+    }
+}
+
+fn is_number(kind: Kind) -> bool
+    ensures { result ≡ is_number kind }
+{
+    matches!(kind, Kind::Number)
+}
