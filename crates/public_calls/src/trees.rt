@@ -1,7 +1,7 @@
 ghost use Rattle.std.specs.Prelude.{◌<◌, length};
 
-use dts_tree::{Cell, Tree, TreeFault, parse};
 use dts_lex::lex;
+use dts_tree::{Cell, Tree, TreeFault, parse};
 use std::alloc::{AllocError, Global};
 use std::test::Fail;
 
