@@ -3,6 +3,7 @@ pub mod Rules
 pub mod Pm4
 pub mod Pm8
 pub mod Pm12
+pub mod Rows
 pub mod Named
 pub mod ChipDesc
 pub mod Sound

@@ -1,5 +1,5 @@
 /// How a rail makes its voltage.
-#[derive(Clone, Copy, Debug)]
+#[derive(Clone, Copy)]
 pub(crate) enum Kind {
     /// A switching regulator, which has modes; its ramp in µV/µs.
     Buck(u32),

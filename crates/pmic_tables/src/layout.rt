@@ -1,7 +1,10 @@
-use crate::chip_desc::ChipRail;
+use crate::chip_desc::{ChipDesc, ChipRail};
 use crate::kind::Kind;
-use board::{Desc, Name, Table};
+use crate::row::Row;
+use board::{Desc, Name};
 use chip_regs::{Bits, Field};
+use item_list::Items;
+use std::alloc::{AllocError, Global};
 
 /// Where a chip has its registers.
 #[derive(Clone, Copy)]
@@ -13,34 +16,47 @@ pub(crate) struct Layout {
 }
 
 impl Layout {
-    ghost use Rattle.std.specs.Prelude.{◌≡◌, ◌+◌, ◌/◌, ◌<◌, ◌≤◌, length, Some};
-    ghost use Rattle.pmic_tables.specs.Sheet.{line};
+    ghost use Rattle.std.specs.Prelude.{◌≡◌, ◌+◌, ◌/◌, ◌<◌, ◌≤◌, Some, IsTrue, IfOk};
+    ghost use Rattle.pmic_tables.specs.Rows.{fits, all_fit, line_of, sheet_of};
     ghost use Rattle.pmic_tables.specs.Rules.{HasRoom, field, bit, modes_of};
-    ghost use Rattle.pmic_tables.specs.ChipDesc.{seen, rail_of};
+    ghost use Rattle.pmic_tables.specs.ChipDesc.{seen, rail_of, IsDescribed};
 
-    /// The rail at a place in the chip's order, from 0, with the values and the selector that the
-    /// data sheet gives it. The rest follows from its place and its kind.
-    pub(crate) fn rail(
+    /// The chip with these rows, and with these registers that aren't 0 after a reset.
+    pub(crate) fn describe(
         &self,
-        place: u8,
-        node: &str,
-        supply: &str,
-        table: Table,
-        register: u8,
-        mask: Bits,
-        kind: Kind,
-    ) -> ChipRail
-        requires room { HasRoom place kind }
+        alloc: Global,
+        rows: &[Row],
+        resets: &[(u8, Bits)],
+    ) -> Result<ChipDesc, AllocError>
         requires sleep { self.now.sleep < 64 }
-        requires node { length node.now ≤ 64 }
-        requires supply { length supply.now ≤ 64 }
-        ensures { seen result ≡ rail_of self.now.number self.now.sleep place (line node.now supply.now table register mask kind) }
+        requires fit { IsTrue (all_fit 0 rows.now) }
+        ensures { IfOk result (IsDescribed self.now.number (sheet_of rows.now resets.now self.now.sleep)) }
     {
+        let mut rails = Items::new(alloc);
+        let mut place = 0;
+        for row in rows {
+            rails.push(self.rail(place, row))?;
+            place += 1;
+        }
+        Ok(ChipDesc {
+            rails,
+            resets: Items::from_vec(resets.to_vec(alloc)?),
+        })
+    }
+
+    /// The rail of a row at a place in the chip's order, from 0. What the row doesn't have follows
+    /// from the place and the kind.
+    pub(crate) fn rail(&self, place: u8, row: &Row) -> ChipRail
+        requires sleep { self.now.sleep < 64 }
+        requires fits { IsTrue (fits place row.now) }
+        ensures { seen result ≡ rail_of self.now.number self.now.sleep place (line_of row.now) }
+    {
+        let Row(node, supply, values, register, mask, kind) = *row;
         ChipRail {
             node: Name::from(node).unwrap(),
             supply: Name::from(supply).unwrap(),
             desc: Desc {
-                table,
+                table: values.table(),
                 selector: Some(self.field(register, mask)),
                 enable: self.bit(0x20, place),
                 modes: self.modes(place, kind),

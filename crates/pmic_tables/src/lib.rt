@@ -8,6 +8,8 @@ mod named;
 mod pm12;
 mod pm4;
 mod pm8;
+mod row;
+mod tables;
 mod values;
 
 pub use chip_desc::{ChipDesc, ChipRail};
