@@ -32,7 +32,7 @@ impl Layout {
         requires fit { IsTrue (all_fit 0 rows.now) }
         ensures { IfOk result (IsDescribed self.now.number (sheet_of rows.now resets.now self.now.sleep)) }
     {
-        let mut rails = Items::new(alloc);
+        let mut rails = Items::from_vec(Vec::with_capacity(alloc, rows.len())?);
         let mut place = 0;
         for row in rows {
             rails.push(self.rail(place, row))?;
