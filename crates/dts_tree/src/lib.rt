@@ -26,4 +26,3 @@ pub use cell::Cell;
 pub use fault::TreeFault;
 pub use parser::parse;
 pub use tree::Tree;
-
