@@ -26,5 +26,3 @@ mod sessions;
 mod times;
 #[cfg(test)]
 mod tokens;
-#[cfg(test)]
-mod trees;
