@@ -43,6 +43,22 @@ function properties(    n) {
     put("};\n")
 }
 
+# The same in no order.
+function scattered(    n, k, count, words, other) {
+    count = int(bytes / 6)
+    for (n = 0; n < count; n++) words[n] = word(n)
+    srand(1)
+    for (n = count - 1; n > 0; n--) {
+        k = int(rand() * (n + 1))
+        other = words[n]
+        words[n] = words[k]
+        words[k] = other
+    }
+    put("/{")
+    for (n = 0; n < count; n++) put("a" words[n] ";")
+    put("};\n")
+}
+
 # As many labels as fit, with a reference to each.
 function labels(    n, count) {
     count = int(bytes / 21)
@@ -96,6 +112,7 @@ BEGIN {
     if (kind == "ordinary") ordinary()
     else if (kind == "siblings") siblings()
     else if (kind == "properties") properties()
+    else if (kind == "scattered") scattered()
     else if (kind == "labels") labels()
     else if (kind == "reopened") reopened()
     else if (kind == "added") added()

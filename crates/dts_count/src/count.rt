@@ -6,7 +6,7 @@ use dts_tree::{TreeFault, parse};
 use std::alloc::Global;
 
 /// What a text has, or why it is no tree.
-#[derive(Clone, Copy, Debug, PartialEq, Eq)]
+#[derive(Clone, Copy)]
 pub(crate) enum Count {
     Counted {
         tokens: usize,

@@ -2,10 +2,10 @@
 #![tactic(auto)]
 
 mod count;
+mod fault;
 
 use count::{Count, count_of};
-use dts_lex::LexFault;
-use dts_tree::TreeFault;
+use fault::{Fault, lex_fault, tree_fault};
 use std::io;
 use std::io::Read;
 
@@ -16,24 +16,21 @@ fn main(rt: HostRuntime) -> io::Result<()> {
         println!(rt; "toolong")?;
         return Ok(());
     }
-    match count_of(rt.alloc(), text.as_slice()) {
+    let Fault { name, at, end } = match count_of(rt.alloc(), text.as_slice()) {
         Count::Counted {
             tokens,
             nodes,
             properties,
-        } => println!(rt; "tokens {tokens} nodes {nodes} properties {properties}")?,
-        Count::Unread(LexFault::BadChar(at)) => println!(rt; "badchar {at}")?,
-        Count::Unread(LexFault::Unclosed(at)) => println!(rt; "unclosed {at}")?,
-        Count::Unread(LexFault::NumberTooWide(at)) => println!(rt; "numbertoowide {at}")?,
-        Count::Unread(LexFault::Memory) => println!(rt; "memory")?,
-        Count::Refused(TreeFault::Syntax(at)) => println!(rt; "syntax {at}")?,
-        Count::Refused(TreeFault::NoLabel(at)) => println!(rt; "nolabel {at}")?,
-        Count::Refused(TreeFault::TwoLabels(at)) => println!(rt; "twolabels {at}")?,
-        Count::Refused(TreeFault::NotSupported { at, end }) => {
-            println!(rt; "notsupported {at} {end}")?;
+        } => {
+            println!(rt; "tokens {tokens} nodes {nodes} properties {properties}")?;
+            return Ok(());
         }
-        Count::Refused(TreeFault::TooDeep(at)) => println!(rt; "toodeep {at}")?,
-        Count::Refused(TreeFault::Memory) => println!(rt; "memory")?,
+        Count::Unread(fault) => lex_fault(fault),
+        Count::Refused(fault) => tree_fault(fault),
+    };
+    match (at, end) {
+        (Some(at), Some(end)) => println!(rt; "{name} {at} {end}"),
+        (Some(at), None) => println!(rt; "{name} {at}"),
+        (None, _) => println!(rt; "{name}"),
     }
-    Ok(())
 }

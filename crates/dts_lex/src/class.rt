@@ -2,7 +2,7 @@ ghost use Rattle.std.specs.Prelude.{◌≡◌};
 ghost use Rattle.dts_lex.specs.Class.{has};
 
 /// The bytes that go on in a row.
-#[derive(Clone, Copy, Debug, PartialEq, Eq)]
+#[derive(Clone, Copy)]
 pub(crate) enum Class {
     /// Letters, digits and `, . _ + - ? # @`.
     Word,

@@ -10,7 +10,7 @@ use crate::scan::{begins_line, comment_end, run_end, string_end};
 use crate::token::{Kind, Token};
 
 /// What stands at a place of the text, and where it ends.
-#[derive(Clone, Copy, Debug, PartialEq, Eq)]
+#[derive(Clone, Copy)]
 pub(crate) enum Piece {
     /// A blank or a comment.
     Gap(usize),

@@ -1,5 +1,5 @@
 -- The names of nodes are those that steps say.
-use Rattle.std.proofs.Common.{◌≡◌, ℕ, zero, suc, ◌+◌, ◌<◌, ◌≤◌, List, [], ◌∷◌, ◌++◌, Bool, true, false, cond, Option, Some, None, Result, Ok, Err, IfOk, length, get_or, map, fold, nat_lt, nat_le, refl, sym, ap, ◌∙◌, subst, arith}
+use Rattle.std.proofs.Common.{◌≡◌, ℕ, zero, suc, List, [], ◌∷◌, ◌++◌, Bool, true, false, cond, Option, Some, None, Result, Ok, Err, IfOk, length, get_or, map, nat_lt, nat_le, subst}
 use Rattle.std.specs.Prelude.{nat_eq, IfSome}
 use Rattle.std.specs.List.{AllByRecursion}
 use Rattle.std.specs.Map.{lookup}
@@ -9,7 +9,7 @@ use Rattle.dts_tree.specs.declared.said.Said.TheVariants.{Label, Root, Node, Add
 use Rattle.dts_tree.specs.declared.fault.TreeFault.{TreeFault}
 use Rattle.dts_tree.specs.declared.fault.TreeFault.TheVariants.{TooDeep}
 use Rattle.dts_tree.specs.Path.{number_of, with_path}
-use Rattle.dts_tree.specs.Reading.{Reading, here, left, elsewhere, with_labels, opened, node_opened, added, stepped, walked, unless_fault, nothing_read}
+use Rattle.dts_tree.specs.Reading.{Reading, here, left, with_labels, opened, node_opened, added, stepped, walked, unless_fault, nothing_read}
 
 module _ (P : ℕ → Type 0) where
   abbrev pub AllNamed : List (List ℕ) → Type 0

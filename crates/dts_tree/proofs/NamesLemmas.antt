@@ -1,13 +1,5 @@
 -- What is known of names while tokens are read.
-use Rattle.std.proofs.Common.{◌≡◌, ◌≢◌, ℕ, ◌+◌, ◌-◌, ◌<◌, ◌≤◌, List, [], ◌∷◌, ◌++◌, Bool, true, false, ◌&&◌, cond, ltb, Option, Some, None, length, get_or, take, drop, map, refl, sym, ap, ◌∙◌, subst, arith}
-use Rattle.std.specs.BTreeMap.{BTreeMap, get_by, is_at, insert_entry}
-use Rattle.std.proofs.Common.{Vec, Global}
-use Rattle.std.specs.Cmp.Lexicographic.{slice_cmp}
-use Rattle.std.specs.Ordering.{nat_cmp, is_eq, match_ordering}
-use Rattle.std.specs.declared.cmp.Ordering.{Ordering}
-use Rattle.std.specs.declared.cmp.Ordering.TheVariants.{Less, Equal, Greater}
-use Rattle.std.proofs.lemmas.Map.Text.{is_eq-slice_cmp}
-use Rattle.std.specs.Map.{lookup}
+use Rattle.std.proofs.Common.{◌≡◌, ℕ, ◌+◌, ◌-◌, ◌<◌, ◌≤◌, List, [], ◌∷◌, ◌++◌, Bool, true, false, ◌&&◌, cond, ltb, Option, Some, None, length, get_or, take, drop, map, refl, sym, ap, ◌∙◌, subst, arith}
 use Rattle.std.specs.Str.{bytes_eq}
 use Rattle.std.specs.List.{position_or_len}
 use Rattle.std.specs.Prelude.{nat_eq, slice_range}
@@ -20,70 +12,6 @@ use Rattle.dts_lex.specs.declared.token.Token.{Token}
 use Rattle.dts_lex.specs.declared.token.Kind.{Kind}
 use Rattle.dts_lex.specs.declared.token.Kind.TheVariants as kind
 use Rattle.dts_tree.specs.Names.{name_by_kind, name_of, first_with, number_in, or_else, or_this, known_before, blank, name_at}
-
-or_else_none : (o : Option ℕ) → o ≡ or_else o None
-or_else_none None = refl
-or_else_none (Some x) = refl
-
-or_else_pick : (b : Bool) (at : ℕ) (o : Option ℕ) → (b ≡ true → o ≡ None) → cond b (Some at) o ≡ or_else o (cond b (Some at) None)
-or_else_pick true at o none = sym (ap (λ r. or_else r (Some at)) (none refl))
-or_else_pick false at o none = or_else_none o
-
-bytes_eq-swap : (a b : List ℕ) → bytes_eq a b ≡ bytes_eq b a
-bytes_eq-swap a b =
-    elim (bytes_eq b a) as (λ (r : Bool). bytes_eq b a ≡ r → bytes_eq a b ≡ r) [
-      | true ↦ λ is. (bytes_eq-Decides a b).1 (sym ((bytes_eq-Decides b a).0 is))
-      | false ↦ λ is. elim (bytes_eq a b) as (λ (r : Bool). bytes_eq a b ≡ r → r ≡ false) [
-        | true ↦ λ back. sym ((bytes_eq-Decides b a).1 (sym ((bytes_eq-Decides a b).0 back))) ∙ is
-        | false ↦ λ back. refl
-      ] refl
-    ] refl
-
-abbrev Name : Type 0
-Name = Vec ℕ Global
-
-abbrev Entries : Type 0
-Entries = List (Name × ℕ)
-
-abbrev found : List ℕ → Entries → Option ℕ
-found q es = lookup (is_at (λ (k : Name). slice_cmp nat_cmp q k.items)) es
-
-abbrev put : Entries → Name → ℕ → Entries
-put es k v = insert_entry (λ (a b : Name). slice_cmp nat_cmp a.items b.items) es k v
-
-pick_same : (b : Bool) (v w : ℕ) (o : Option ℕ) → cond b (Some v) o ≡ cond b (Some v) (cond b (Some w) o)
-pick_same true v w o = refl
-pick_same false v w o = refl
-
--- what a map with one more entry has at a name
-found_put : (es : Entries) (k : Name) (v : ℕ) (q : List ℕ) → found q (put es k v) ≡ cond (bytes_eq k.items q) (Some v) (found q es)
-found_put [] k v q = ap (λ b. cond b (Some v) None) (is_eq-slice_cmp q k.items ∙ bytes_eq-swap q k.items)
-found_put (e ∷ es) k v q =
-    elim (slice_cmp nat_cmp k.items e.0.items) as (λ (o : Ordering). slice_cmp nat_cmp k.items e.0.items ≡ o → found q (match_ordering o ((k, v) ∷ e ∷ es) ((e.0, v) ∷ es) (e ∷ put es k v)) ≡ cond (bytes_eq k.items q) (Some v) (found q (e ∷ es))) [
-      | Less ↦ λ is. ap (λ b. cond b (Some v) (found q (e ∷ es))) (is_eq-slice_cmp q k.items ∙ bytes_eq-swap q k.items)
-      | Equal ↦ λ is.
-          (let same : k.items ≡ e.0.items = (bytes_eq-Decides k.items e.0.items).0 (sym (is_eq-slice_cmp k.items e.0.items) ∙ ap is_eq is) in
-          let here : is_eq (slice_cmp nat_cmp q e.0.items) ≡ bytes_eq k.items q = is_eq-slice_cmp q e.0.items ∙ bytes_eq-swap q e.0.items ∙ ap (λ xs. bytes_eq xs q) (sym same) in
-          ap (λ b. cond b (Some v) (found q es)) here
-          ∙ pick_same (bytes_eq k.items q) v e.1 (found q es)
-          ∙ ap (λ b. cond (bytes_eq k.items q) (Some v) (cond b (Some e.1) (found q es))) (sym here))
-      | Greater ↦ λ is.
-          (elim (bytes_eq k.items q) as (λ (b : Bool). bytes_eq k.items q ≡ b → cond (is_eq (slice_cmp nat_cmp q e.0.items)) (Some e.1) (found q (put es k v)) ≡ cond b (Some v) (cond (is_eq (slice_cmp nat_cmp q e.0.items)) (Some e.1) (found q es))) [
-            | true ↦ λ same.
-                (let other : is_eq (slice_cmp nat_cmp q e.0.items) ≡ false = ap (λ xs. is_eq (slice_cmp nat_cmp xs e.0.items)) (sym ((bytes_eq-Decides k.items q).0 same)) ∙ ap is_eq is in
-                ap (λ b. cond b (Some e.1) (found q (put es k v))) other ∙ found_put es k v q ∙ ap (λ b. cond b (Some v) (found q es)) same)
-            | false ↦ λ differ. ap (λ o. cond (is_eq (slice_cmp nat_cmp q e.0.items)) (Some e.1) o) (found_put es k v q ∙ ap (λ b. cond b (Some v) (found q es)) differ)
-          ] refl)
-    ] refl
-
--- a map with one more name at its place
-pub known_on : (old new : BTreeMap Name ℕ) (key : Name) (name : List ℕ) (at : ℕ) → key.items ≡ name → get_by (λ k. slice_cmp nat_cmp name k.items) old ≡ None → new.entries ≡ insert_entry (λ (a b : Name). slice_cmp nat_cmp a.items b.items) old.entries key at → (q : List ℕ) → get_by (λ k. slice_cmp nat_cmp q k.items) new ≡ or_else (get_by (λ k. slice_cmp nat_cmp q k.items) old) (cond (bytes_eq name q) (Some at) None)
-known_on old new key name at same absent put_is q =
-    ap (found q) put_is
-    ∙ found_put old.entries key at q
-    ∙ ap (λ xs. cond (bytes_eq xs q) (Some at) (found q old.entries)) same
-    ∙ or_else_pick (bytes_eq name q) at (found q old.entries)
-    (λ is. subst (λ (s : List ℕ). found s old.entries ≡ None) ((bytes_eq-Decides name q).0 is) absent)
 
 module _ (text : List ℕ) (tokens : List Token) (at : ℕ) (d : Token) (inside : at < length tokens) where
   before_here : (q : List ℕ) → first_with text tokens q < at → known_before (first_with text tokens q) at ≡ Some (first_with text tokens q)
@@ -198,10 +126,10 @@ module _ (text : List ℕ) (tokens : List Token) where
   name_below : ((i : ℕ) → get_or text i 0 < 256) → (k : Kind) (t : Token) → get_or (name_by_kind text k t) 0 0 < 256
   name_below bytes kind.Ref t = bytes_below bytes (t.start + 1) t.end
   name_below bytes kind.Word t = bytes_below bytes t.start t.end
-  name_below bytes kind.Number t = bytes_below bytes t.start t.end
-  name_below bytes kind.Text t = bytes_below bytes t.start t.end
-  name_below bytes kind.Directive t = bytes_below bytes t.start t.end
-  name_below bytes kind.Sign t = bytes_below bytes t.start t.end
+  name_below bytes kind.Number t = omega arith
+  name_below bytes kind.Text t = omega arith
+  name_below bytes kind.Directive t = omega arith
+  name_below bytes kind.Sign t = omega arith
 
   -- two numbers stand for one name only where they are equal
   name_at_once : ((i : ℕ) → get_or text i 0 < 256) → (a b : ℕ) → name_at text tokens a ≡ name_at text tokens b → a ≡ b

@@ -1,5 +1,5 @@
 -- The walk over links that gives the order of a tree.
-use Rattle.std.proofs.Common.{◌≡◌, ℕ, zero, suc, ◌+◌, ◌-◌, ◌<◌, ◌≤◌, List, [], ◌∷◌, ◌++◌, Bool, true, false, cond, Option, Some, None, inl, inr, length, filter, get_or, set, replicate, reverse, nat_eq, refl, sym, ap, ◌∙◌, subst, arith, append_assoc}
+use Rattle.std.proofs.Common.{◌≡◌, ℕ, zero, suc, ◌+◌, ◌-◌, ◌<◌, ◌≤◌, List, [], ◌∷◌, ◌++◌, Bool, true, false, cond, Option, Some, None, length, filter, get_or, set, replicate, reverse, nat_eq, refl, sym, ap, ◌∙◌, subst, arith, append_assoc}
 use Rattle.std.proofs.Math.Logic.{⊎_elim}
 use Rattle.std.specs.List.{range_with_len, flat_map}
 use Rattle.std.proofs.lemmas.Bool.{cases_eq, cases_lt, cases_Bool, cond-true, cond-false, eq-eqb, ne_eqb, eqb-true}
@@ -48,7 +48,7 @@ linked_more parents first next k s low high earlier is h = record {
   firsts = length-set first (get_or parents k 0) (Some k) ∙ h.firsts;
   nexts = length-set next k s ∙ h.nexts;
   child = λ x in_x. ⊎_elim
-      (λ e. ap (λ (y : ℕ). get_or (set first (get_or parents k 0) (Some k)) y None) (sym e)
+      (λ (e : get_or parents k 0 ≡ x). ap (λ (y : ℕ). get_or (set first (get_or parents k 0) (Some k)) y None) (sym e)
       ∙ (get_or-set_same first (get_or parents k 0) (Some k) None (rw h.firsts (omega (arith, earlier, high)))
       ∙ sym (ap first_of (children_from-step parents x k high ∙ cond-true _ (k ∷ children_from parents x (k + 1)) (children_from parents x (k + 1)) (eq-eqb (get_or parents k 0) x e)))))
       (λ n. get_or-set_other first (get_or parents k 0) x (Some k) None (λ e. n (sym e))

@@ -1,6 +1,6 @@
 -- What is known of a text while its tokens are read.
-use Rattle.std.proofs.Common.{◌≡◌, ℕ, zero, suc, ◌+◌, ◌<◌, ◌≤◌, List, [], ◌∷◌, ◌++◌, Bool, true, false, Option, Some, None, length, take, get_or, refl, sym, ap, ◌∙◌, subst, inl, inr, arith, append_assoc}
-use Rattle.std.specs.Prelude.{◌⊎◌, ◌↔◌}
+use Rattle.std.proofs.Common.{◌≡◌, ℕ, zero, suc, ◌+◌, ◌<◌, ◌≤◌, List, [], ◌∷◌, ◌++◌, false, Option, Some, None, length, take, get_or, refl, sym, ap, ◌∙◌, subst, inl, inr, arith, append_assoc}
+use Rattle.std.specs.Prelude.{◌↔◌}
 use Rattle.std.specs.Prelude.{IsTrue, IfSome}
 use Rattle.std.specs.List.{AllByRecursion}
 use Rattle.std.proofs.Common.{eqb, eq-eqb}
@@ -19,9 +19,9 @@ use Rattle.dts_tree.specs.declared.symbol.Symbol.TheVariants as symbol
 use Rattle.dts_tree.specs.Symbol.{symbol_of}
 use Rattle.dts_tree.specs.Grammar.{Told, Is, Cells, Bytes, Part, Value, Opening, Members, Items, File}
 use Rattle.dts_tree.specs.Grammar as grammar
-use Rattle.dts_tree.specs.Rest.{Then, Inside, ValueThen, PartThen, Rest, Follows}
+use Rattle.dts_tree.specs.Rest.{Then, Inside, PartThen, Rest, Follows}
 use Rattle.dts_tree.specs.declared.outline.OutlineFault.{OutlineFault}
-use Rattle.dts_tree.specs.Outline.{Reads, list_of, told_by, Begins, BeginText, AreText, Tell, Breaks, fault_of}
+use Rattle.dts_tree.specs.Outline.{Reads, list_of, told_by, BeginText, AreText, Tell, Breaks, fault_of}
 use Rattle.dts_tree.specs.Within.{IsStepWithin}
 
 -- the spans of tokens

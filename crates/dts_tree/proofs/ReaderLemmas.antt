@@ -1,20 +1,19 @@
 -- What is kept while steps are read, and what has been read by it.
-use Rattle.std.proofs.Common.{◌≡◌, ℕ, zero, suc, ◌+◌, ◌-◌, ◌<◌, ◌≤◌, ◌⊎◌, List, [], ◌∷◌, ◌++◌, Bool, true, false, not, cond, Option, Some, None, Ok, Err, inl, inr, length, map, fold, get_or, reverse, nat_eq, refl, sym, ap, ◌∙◌, subst, arith}
+use Rattle.std.proofs.Common.{◌≡◌, ℕ, ◌+◌, ◌<◌, ◌≤◌, ◌⊎◌, List, [], ◌∷◌, ◌++◌, Bool, true, false, not, cond, Option, Some, None, Ok, Err, inl, inr, length, map, get_or, reverse, nat_eq, refl, sym, ap, ◌∙◌, subst, arith}
 use Rattle.std.proofs.Math.Logic.{⊎_elim}
-use Rattle.std.specs.Option.{option_map, option_eq}
+use Rattle.std.specs.Option.{option_map}
 use Rattle.std.specs.Map.{lookup}
 use Rattle.std.specs.Cmp.Lexicographic.{pointwise}
-use Rattle.std.proofs.lemmas.Bool.{cases_eq, cases_lt, cases_Bool, cond-true, cond-false, lt-ltb, le-ltb, le-leb, lt-leb, false_from_ne_true}
+use Rattle.std.proofs.lemmas.Bool.{cases_eq, cases_lt, cases_Bool, cond-true, cond-false, lt-ltb, le-ltb, false_from_ne_true}
 use Rattle.std.proofs.lemmas.List.{reverse-append, map-append, get_or_append_left, get_or_push, get_or_past, length_push}
 use Rattle.std.proofs.lemmas.List.Sums.{prefix_len-le-length, fails_before_first, passes_at_first}
 use Rattle.std.proofs.lemmas.Slice.Eq.{bytes_eq-Decides}
 use Rattle.dts_tree.specs.declared.setting.Setting.{Setting}
 use Rattle.dts_tree.specs.declared.setting.Setting.TheVariants.{Opens, Sets}
 use Rattle.dts_tree.specs.declared.fault.TreeFault.{TreeFault}
-use Rattle.dts_tree.specs.declared.fault.TreeFault.TheVariants.{TwoLabels, TooDeep}
 use Rattle.dts_tree.specs.Path.{number_of, with_path}
 use Rattle.indexmap.specs.IndexMap.{insert_entry}
-use Rattle.dts_tree.specs.Reading.{Reading, here, left, elsewhere, stands_elsewhere, with_labels, opened, node_opened, stepped, walked, unless_fault, nothing_read}
+use Rattle.dts_tree.specs.Reading.{Reading, elsewhere, stands_elsewhere, with_labels, opened, stepped, walked, unless_fault, nothing_read}
 use Rattle.dts_tree.specs.declared.said.Said.{Said}
 use Rattle.dts_tree.specs.declared.reader.Reader.{Reader}
 use Rattle.dts_tree.specs.Reader.{Standing, reading, AllBelow, path_at, label_at, with_path_at, node_of, elsewhere_by_number, stands_off, with_labels_at}

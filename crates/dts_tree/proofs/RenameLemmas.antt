@@ -1,18 +1,15 @@
 -- With other names that are equal where the old ones are, the same is read.
-use Rattle.std.proofs.Common.{◌≡◌, ℕ, zero, suc, ◌+◌, ◌<◌, ◌≤◌, List, [], ◌∷◌, ◌++◌, Bool, true, false, not, ◌&&◌, cond, Option, Some, None, Result, Ok, Err, inl, inr, length, map, fold, nat_lt, nat_le, refl, sym, ap, ◌∙◌, arith}
-use Rattle.std.proofs.Math.Logic.{⊎_elim}
+use Rattle.std.proofs.Common.{◌≡◌, ℕ, ◌+◌, List, [], ◌∷◌, ◌++◌, Bool, true, false, not, ◌&&◌, cond, Option, Some, None, Result, Ok, Err, length, map, nat_lt, nat_le, refl, sym, ap, ◌∙◌}
 use Rattle.std.specs.Option.{option_map}
 use Rattle.std.specs.Map.{lookup}
-use Rattle.std.specs.List.{position_or_len}
 use Rattle.std.specs.Cmp.Lexicographic.{pointwise}
-use Rattle.std.proofs.lemmas.Bool.{cases_Bool, cond-true, cond-false}
 use Rattle.std.proofs.lemmas.List.{map-append, length-map}
 use Rattle.indexmap.specs.IndexMap.{insert_entry}
 use Rattle.dts_tree.specs.declared.said.Said.{Said}
 use Rattle.dts_tree.specs.declared.said.Said.TheVariants.{Label, Root, Node, Add, Leave, Property}
 use Rattle.dts_tree.specs.declared.setting.Setting.TheVariants.{Opens, Sets}
 use Rattle.dts_tree.specs.declared.fault.TreeFault.{TreeFault}
-use Rattle.dts_tree.specs.declared.fault.TreeFault.TheVariants.{TwoLabels, TooDeep}
+use Rattle.dts_tree.specs.declared.fault.TreeFault.TheVariants.{TooDeep}
 use Rattle.dts_tree.specs.Path.{number_of, with_path}
 use Rattle.dts_tree.specs.Reading.{Reading, here, left, elsewhere, stands_elsewhere, with_labels, opened, node_opened, added, stepped, walked, unless_fault, nothing_read}
 use Rattle.dts_tree.specs.Rename.{said_by, setting_by, label_by, waiting_by, reading_by, read_by}

@@ -1,15 +1,14 @@
 -- Steps of the definitions of `Saying` along a value and along the steps.
-use Rattle.std.proofs.Common.{◌≡◌, ℕ, suc, ◌+◌, ◌-◌, ◌<◌, ◌≤◌, List, [], ◌∷◌, ◌++◌, Bool, true, false, not, ◌&&◌, cond, Option, Some, None, length, get_or, take, drop, map, refl, sym, ap, ◌∙◌, arith}
-use Rattle.std.specs.Prelude.{nat_eq, is_some, slice_range}
+use Rattle.std.proofs.Common.{◌≡◌, ℕ, suc, ◌+◌, ◌-◌, ◌<◌, ◌≤◌, List, [], ◌∷◌, Bool, true, false, Option, Some, None, length, get_or, drop, map, refl, sym, ap, ◌∙◌, arith}
+use Rattle.std.specs.Prelude.{is_some, slice_range}
 use Rattle.std.specs.List.{find, flat_map}
-use Rattle.std.specs.Map.{lookup}
 use Rattle.std.specs.Option.{option_or}
 use Rattle.std.proofs.lemmas.List.{drop_more, drop_all, get_or-map}
 use Rattle.std.proofs.lemmas.List.Folds.{find-append}
 use Rattle.dts_lex.specs.declared.token.Token.{Token}
 use Rattle.dts_tree.specs.declared.step.Step.{Step}
 use Rattle.dts_tree.specs.Names.{number_in}
-use Rattle.dts_tree.specs.Saying.{is_ref, is_unknown, unknown_ref, value_of}
+use Rattle.dts_tree.specs.Saying.{is_unknown, unknown_ref, value_of}
 
 slice_range-cons : {X : Type 0} (xs : List X) (at to : ℕ) (d : X) → at < to → at < length xs → slice_range xs at to ≡ get_or xs at d ∷ slice_range xs (at + 1) to
 slice_range-cons xs at to d before inside =

@@ -1,9 +1,8 @@
 -- What was read with numbers and the tree of what was read are one.
-use Rattle.std.proofs.Common.{◌≡◌, ℕ, zero, suc, ◌+◌, ◌<◌, ◌≤◌, List, [], ◌∷◌, ◌++◌, Bool, true, false, ◌&&◌, cond, inl, inr, length, map, filter, fold, get_or, nat_eq, refl, sym, ap, ◌∙◌, arith}
+use Rattle.std.proofs.Common.{◌≡◌, ℕ, zero, suc, ◌<◌, List, [], ◌∷◌, ◌++◌, Bool, true, false, ◌&&◌, cond, length, map, filter, fold, get_or, nat_eq, refl, sym, ap, ◌∙◌}
 use Rattle.std.specs.List.{flat_map}
 use Rattle.std.specs.Str.{bytes_eq}
 use Rattle.std.specs.Cmp.Lexicographic.{pointwise}
-use Rattle.std.specs.Prelude.{slice_range}
 use Rattle.std.proofs.lemmas.List.Folds.{flat_map-map}
 use Rattle.indexmap.specs.IndexMap.{insert_entry}
 use Rattle.dts_lex.specs.declared.token.Token.{Token}
@@ -11,12 +10,12 @@ use Rattle.dts_tree.specs.declared.setting.Setting.{Setting}
 use Rattle.dts_tree.specs.declared.setting.Setting.TheVariants.{Opens, Sets}
 use Rattle.dts_tree.specs.declared.reader.Reader.{Reader}
 use Rattle.dts_tree.specs.Names.{name_at}
-use Rattle.dts_tree.specs.Reader.{Standing, AllBelow, path_at, label_at, with_path_at, node_of, reading}
-use Rattle.dts_tree.specs.Rename.{setting_by, label_by, reading_by}
+use Rattle.dts_tree.specs.Reader.{Standing, AllBelow, path_at, label_at, with_path_at, node_of}
+use Rattle.dts_tree.specs.Rename.{setting_by, label_by}
 use Rattle.dts_tree.specs.Shape.{is_child_of, children_of, tree_below, tree_order_of}
 use Rattle.dts_tree.specs.Settled.{first_place, same_property, with_value, values_of}
 use Rattle.dts_tree.specs.TextReading.{reading_in}
-use Rattle.dts_tree.specs.Tree.{DeviceTree, kept_tree, tree_of, with_tokens, kept_value, kept_label}
+use Rattle.dts_tree.specs.Tree.{kept_tree, tree_of, with_tokens, kept_value, kept_label}
 use Rattle.dts_tree.proofs.NamesLemmas.{names_tell}
 use Rattle.dts_tree.proofs.ReaderLemmas.{map-same, all_below-id}
 use Rattle.dts_tree.proofs.RenameLemmas.{path_same, map-cond}

@@ -1,11 +1,12 @@
 -- What settings come to, one setting more in front.
-use Rattle.std.proofs.Common.{◌≡◌, ℕ, ◌+◌, ◌<◌, ◌≤◌, List, [], ◌∷◌, ◌++◌, cond, length, get_or, set, nat_eq, refl, sym, ap, ◌∙◌, arith}
+use Rattle.std.proofs.Common.{◌≡◌, ℕ, ◌+◌, ◌<◌, ◌≤◌, List, [], ◌∷◌, ◌++◌, length, get_or, set, nat_eq, refl, sym, ap, subst, ◌∙◌, arith}
 use Rattle.std.proofs.Math.Logic.{⊎_elim}
 use Rattle.std.proofs.lemmas.Bool.{cases_eq, cases_lt, cond-true, cond-false, eq-eqb, ne_eqb}
-use Rattle.std.proofs.lemmas.List.{length-set, get_or-set_same, get_or-set_other, get_or_append_left, get_or_push, length_push}
+use Rattle.std.proofs.lemmas.List.{length-set, get_or-set_same, get_or-set_other, get_or_append_left, get_or_push}
 use Rattle.dts_tree.specs.declared.setting.Setting.{Setting}
 use Rattle.dts_tree.specs.declared.setting.Setting.TheVariants.{Opens, Sets}
 use Rattle.dts_tree.specs.Settled.{first_place, with_place}
+use Rattle.dts_tree.specs.Shape.{ParentsOf}
 
 pub with_place-length : (places : List ℕ) (s : Setting ℕ ℕ) → length (with_place places s) ≡ length places
 with_place-length places (Opens node at) = length-set places node at
@@ -28,11 +29,33 @@ pub parents-push : (paths : List (List ℕ)) (parents : List ℕ) (p name : ℕ)
 parents-push paths parents p name h is below = record {
   child = λ j low in_j. ⊎_elim
       (λ old. let k = h.child j low old in (k.0, k.1 ∙ ap (λ q. k.0 ∷ get_or paths q []) (sym (get_or_append_left parents (p ∷ []) 0 j old))))
-      (λ past. let e : length parents ≡ j = omega (arith, past, in_j) in
+      (λ (past : length parents ≤ j). let e : length parents ≡ j = omega (arith, past, in_j) in
       (name, ap (λ (i : ℕ). get_or paths i []) (sym e) ∙ (is ∙ ap (λ q. name ∷ get_or paths q []) (sym (get_or_push parents p 0 j e)))))
       (cases_lt j (length parents));
   earlier = λ j low in_j. ⊎_elim
       (λ old. rw (get_or_append_left parents (p ∷ []) 0 j old) (h.earlier j low old))
-      (λ past. let e : length parents ≡ j = omega (arith, past, in_j) in rw (get_or_push parents p 0 j e) (omega (arith, e, below)))
+      (λ (past : length parents ≤ j). let e : length parents ≡ j = omega (arith, past, in_j) in rw (get_or_push parents p 0 j e) (omega (arith, e, below)))
       (cases_lt j (length parents));
+}
+
+pub parents-more : (paths : List (List ℕ)) (old new : List ℕ) (p name n : ℕ) → length old ≡ n → new ≡ old ++ p ∷ [] → Parents paths old n → get_or paths n [] ≡ name ∷ get_or paths p [] → p < n → Parents paths new (n + 1)
+parents-more paths old new p name n long e h is below =
+    subst (λ (ps : List ℕ). Parents paths ps (n + 1)) (sym e)
+    (subst (λ (m : ℕ). Parents paths (old ++ p ∷ []) (m + 1)) long
+    (parents-push paths old p name (subst (Parents paths old) (sym long) h)
+    (subst (λ (m : ℕ). get_or paths m [] ≡ name ∷ get_or paths p []) (sym long) is)
+    (subst (λ (m : ℕ). p < m) (sym long) below)))
+
+pub parents-start : (paths : List (List ℕ)) (parents : List ℕ) → Parents paths parents 1
+parents-start paths parents = record {
+  child = λ j low below. absurd (omega (arith, low, below));
+  earlier = λ j low below. absurd (omega (arith, low, below));
+}
+
+pub parents-whole : (paths : List (List ℕ)) (parents : List ℕ) (n : ℕ) → length parents ≡ n → n ≡ length paths → get_or paths 0 [] ≡ [] → Parents paths parents n → ParentsOf paths parents
+parents-whole paths parents n long whole root h = record {
+  long = long ∙ whole;
+  root = root;
+  child = λ j low below. h.child j low (omega (arith, whole, below));
+  earlier = λ j low below. h.earlier j low (omega (arith, whole, below));
 }

@@ -1,16 +1,15 @@
 -- The order by numbers is the order by paths.
-use Rattle.std.proofs.Common.{◌≡◌, ℕ, zero, suc, ◌+◌, ◌-◌, ◌<◌, ◌≤◌, List, [], ◌∷◌, ◌++◌, Bool, true, false, cond, inl, inr, length, map, filter, get_or, nat_eq, refl, sym, ap, ◌∙◌, subst, arith}
-use Rattle.std.proofs.Math.Logic.{⊎_elim}
+use Rattle.std.proofs.Common.{◌≡◌, ℕ, zero, suc, ◌+◌, ◌-◌, ◌<◌, ◌≤◌, List, [], ◌∷◌, ◌++◌, Bool, false, cond, length, map, filter, get_or, nat_eq, refl, sym, ap, ◌∙◌, arith}
 use Rattle.std.specs.List.{range_with_len, flat_map}
 use Rattle.std.specs.Cmp.Lexicographic.{pointwise}
-use Rattle.std.proofs.lemmas.Bool.{cases_Bool, cond-true, cond-false, eqb-true, ne_eqb}
+use Rattle.std.proofs.lemmas.Bool.{eqb-true, ne_eqb}
 use Rattle.std.proofs.lemmas.List.{same_lists, map-append, get_or_default}
 use Rattle.std.proofs.lemmas.List.Folds.{flat_map-map}
 use Rattle.std.proofs.lemmas.List.FromFn.{length-map-range_with_len, get_or-map-range_with_len}
-use Rattle.dts_tree.specs.Order.{children_from, below, in_tree_order}
+use Rattle.dts_tree.specs.Order.{children_from, in_tree_order}
 use Rattle.dts_tree.specs.Shape.{is_child_of, children_of, tree_below, tree_order_of, ParentsOf}
 use Rattle.dts_tree.proofs.RenameLemmas.{map-cond}
-use Rattle.dts_tree.proofs.OrderLemmas.{block, block-step, filter-none, filter-passes, filter-fails, flat_map-children, IsEarlier}
+use Rattle.dts_tree.proofs.OrderLemmas.{block, block-step, filter-none, filter-fails, flat_map-children, IsEarlier}
 
 pub filter-map : {X Y : Type 0} (p : Y → Bool) (g : X → Y) (xs : List X) → filter p (map g xs) ≡ map g (filter (λ x. p (g x)) xs)
 filter-map p g [] = refl

@@ -1,5 +1,5 @@
 -- What is read with numbers for names is what is read with the names.
-use Rattle.std.proofs.Common.{◌≡◌, ℕ, suc, ◌+◌, ◌-◌, ◌<◌, ◌≤◌, List, [], ◌∷◌, ◌++◌, Bool, true, false, not, ◌&&◌, cond, Option, Some, None, Result, Ok, Err, length, get_or, take, drop, map, refl, sym, ap, ◌∙◌, arith}
+use Rattle.std.proofs.Common.{◌≡◌, ℕ, suc, ◌+◌, ◌-◌, ◌<◌, List, [], ◌∷◌, Bool, true, false, not, ◌&&◌, cond, Option, Some, None, Ok, Err, length, get_or, drop, map, refl, sym, ap, ◌∙◌, arith}
 use Rattle.std.specs.Prelude.{nat_eq, is_some, slice_range}
 use Rattle.std.specs.List.{AllByRecursion, find, flat_map}
 use Rattle.std.specs.Map.{lookup}
@@ -14,8 +14,8 @@ use Rattle.dts_tree.specs.declared.fault.TreeFault.{TreeFault}
 use Rattle.dts_tree.specs.declared.reader.Reader.{Reader}
 use Rattle.dts_tree.specs.Names.{blank, name_of, name_at, number_in}
 use Rattle.dts_tree.specs.Reader.{reading, label_at}
-use Rattle.dts_tree.specs.Reading.{Reading, nothing_read, walked}
-use Rattle.dts_tree.specs.Rename.{said_by, label_by, reading_by, read_by}
+use Rattle.dts_tree.specs.Reading.{nothing_read, walked}
+use Rattle.dts_tree.specs.Rename.{said_by, label_by, read_by}
 use Rattle.dts_tree.specs.Saying.{said_with, value_of, is_ref, is_unknown, unknown_ref}
 use Rattle.dts_tree.specs.declared.fault.TreeFault.TheVariants as fault
 use Rattle.dts_tree.specs.declared.outline.OutlineFault.{OutlineFault}

@@ -1,13 +1,13 @@
 -- A tree that is kept with numbers.
-use Rattle.std.proofs.Common.{◌≡◌, ℕ, zero, suc, ◌+◌, ◌<◌, ◌≤◌, List, [], ◌∷◌, ◌++◌, Bool, not, cond, Option, Some, None, length, map, get_or, nat_eq, refl, sym, ap, ◌∙◌, arith}
+use Rattle.std.proofs.Common.{◌≡◌, ℕ, zero, suc, ◌+◌, ◌<◌, List, [], ◌∷◌, Bool, not, cond, length, map, get_or, nat_eq, refl, sym, ap, ◌∙◌, arith}
 use Rattle.std.specs.List.{position_or_len}
 use Rattle.std.specs.Str.{bytes_eq}
 use Rattle.std.specs.Cmp.Lexicographic.{pointwise}
 use Rattle.std.proofs.lemmas.List.{get_or-map, length-map}
 use Rattle.dts_lex.specs.declared.token.Token.{Token}
-use Rattle.dts_tree.specs.Names.{name_of, name_at, token_at}
+use Rattle.dts_tree.specs.Names.{name_at}
 use Rattle.dts_tree.specs.Reader.{AllBelow, path_at}
-use Rattle.dts_tree.specs.Tree.{DeviceTree, kept_tree, Settled, own_name, parent_among}
+use Rattle.dts_tree.specs.Tree.{DeviceTree, kept_tree}
 use Rattle.dts_tree.proofs.NamesLemmas.{names_tell}
 use Rattle.dts_tree.proofs.RenameLemmas.{path_same}
 

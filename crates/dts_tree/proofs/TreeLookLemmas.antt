@@ -1,5 +1,5 @@
 -- Values and labels of a tree that is kept with numbers.
-use Rattle.std.proofs.Common.{◌≡◌, ℕ, zero, suc, ◌+◌, ◌<◌, ◌≤◌, List, [], ◌∷◌, ◌++◌, Bool, true, false, ◌&&◌, cond, Option, Some, None, length, map, fold, get_or, nat_eq, refl, sym, ap, ◌∙◌, subst, arith}
+use Rattle.std.proofs.Common.{◌≡◌, ℕ, ◌<◌, List, [], ◌∷◌, Bool, true, false, ◌&&◌, cond, Option, Some, None, length, map, fold, get_or, nat_eq, refl, sym, ap, ◌∙◌, subst, arith}
 use Rattle.std.specs.Prelude.{slice_range}
 use Rattle.std.proofs.lemmas.List.{length-map}
 use Rattle.std.specs.List.{position, position_or_len}
@@ -10,8 +10,7 @@ use Rattle.std.specs.Option.{option_map}
 use Rattle.std.specs.Str.{bytes_eq}
 use Rattle.std.specs.Cmp.Lexicographic.{pointwise}
 use Rattle.dts_lex.specs.declared.token.Token.{Token}
-use Rattle.dts_tree.specs.Names.{name_of, name_at, token_at, first_with, known_before}
-use Rattle.dts_tree.specs.Path.{number_of}
+use Rattle.dts_tree.specs.Names.{name_at, first_with, known_before}
 use Rattle.dts_tree.specs.Reader.{AllBelow, path_at, node_of}
 use Rattle.dts_tree.specs.declared.setting.Setting.{Setting}
 use Rattle.dts_tree.specs.declared.setting.Setting.TheVariants.{Opens, Sets}
@@ -21,7 +20,7 @@ use Rattle.dts_tree.specs.Tree.{DeviceTree, kept_tree, kept_value, kept_label, w
 use Rattle.dts_tree.specs.TreeValues.{node_of_label, node_among}
 use Rattle.dts_tree.proofs.NamesLemmas.{names_tell, name_found, name_missing}
 use Rattle.dts_tree.proofs.RenameLemmas.{path_same}
-use Rattle.dts_tree.proofs.TreeLemmas.{tree-node, tree-inside, tree-parent, tree-count}
+use Rattle.dts_tree.proofs.TreeLemmas.{tree-node, tree-parent, tree-count}
 
 and_false : (a b : Bool) → b ≡ false → (a && b) ≡ false
 and_false true b is = is

@@ -1,17 +1,15 @@
 -- What a token leads to at each place of a text.
-use Rattle.std.proofs.Common.{◌≡◌, ℕ, zero, suc, ◌+◌, List, [], ◌∷◌, Bool, true, false, Option, Some, None, refl, sym, ap, ◌∙◌, subst, inl, inr}
+use Rattle.std.proofs.Common.{◌≡◌, ℕ, suc, List, [], ◌∷◌, Bool, true, false, Option, Some, None, refl, sym, ap, ◌∙◌, subst, inl, inr}
 use Rattle.std.specs.Prelude.{◌⊎◌, ◌↔◌}
-use Rattle.dts_tree.specs.declared.place.Place.{Place}
 use Rattle.dts_tree.specs.declared.place.Place.TheVariants as place
 use Rattle.dts_tree.specs.declared.turn.Turn.{Turn}
-use Rattle.dts_tree.specs.declared.step.Step.{Step}
-use Rattle.dts_tree.specs.declared.step.Step.TheVariants.{Label, Root, Node, Add, Leave, Property}
+use Rattle.dts_tree.specs.declared.step.Step.TheVariants.{Root, Add, Leave}
 use Rattle.dts_tree.specs.declared.symbol.Symbol.{Symbol}
-use Rattle.dts_tree.specs.declared.symbol.Symbol.TheVariants.{Version, Semicolon, Colon, Equals, Comma, Slash, Open, Close, Less, Greater, Left, Right, Ref, Number, Text, Word, Foreign}
+use Rattle.dts_tree.specs.declared.symbol.Symbol.TheVariants.{Version, Semicolon, Equals, Slash, Open, Close, Less, Greater, Left, Right, Ref, Number, Text, Word}
 use Rattle.dts_tree.specs.Symbol.{is_word, is_label_word, is_property_word, is_bytes_word}
 use Rattle.dts_tree.specs.Grammar.{Told, Is, IsWord, Cells, Bytes, Part, Value, Opening, Members, Items, File}
 use Rattle.dts_tree.specs.Grammar as grammar
-use Rattle.dts_tree.specs.Rest.{Then, Inside, ValueThen, PartThen, CellsThen, BytesThen, OpeningThen, NodeThen, MemberThen, Rest, Follows}
+use Rattle.dts_tree.specs.Rest.{Then, Inside, ValueThen, PartThen, OpeningThen, NodeThen, MemberThen, Rest, Follows}
 
 -- a turn that may name the token's own place
 follows_at : (Others : List Told → Type 0) (symbol : Symbol) (turn : ℕ → Turn) (at : ℕ) → ((t : Told) (ts : List Told) → t.symbol ≡ symbol → Others (t ∷ ts) ↔ ((t.says ≡ (turn t.at).step) × Rest (turn t.at).place (turn t.at).depth ts)) → Follows Others symbol at (Some (turn at))

@@ -1,10 +1,10 @@
 -- Steps of the definitions of `Value` along a value and along a string.
-use Rattle.std.proofs.Common.{◌≡◌, ℕ, zero, suc, ◌+◌, ◌-◌, ◌<◌, ◌≤◌, List, [], ◌∷◌, ◌++◌, Bool, true, false, not, eqb, Option, Some, None, length, get_or, take, drop, map, refl, sym, ap, ◌∙◌, subst, arith, append_assoc, below_more}
+use Rattle.std.proofs.Common.{◌≡◌, ℕ, ◌+◌, ◌-◌, ◌<◌, ◌≤◌, List, [], ◌∷◌, ◌++◌, Bool, true, false, eqb, Option, Some, None, length, get_or, take, drop, map, refl, sym, ap, ◌∙◌, arith, append_assoc, below_more}
 use Rattle.std.specs.Prelude.{slice_get}
 use Rattle.std.specs.List.{filter_map}
 use Rattle.std.specs.Option.{option_map}
 use Rattle.std.proofs.lemmas.Bool.{eq-eqb, ne_eqb}
-use Rattle.std.proofs.lemmas.List.{map-append, take_more, drop_more, drop_all, length-drop}
+use Rattle.std.proofs.lemmas.List.{map-append, take_more, drop_more, length-drop}
 use Rattle.std.proofs.lemmas.List.Elements.{filter_map-append}
 use Rattle.std.proofs.lemmas.Option.{slice_get-get_or}
 use Rattle.dts_lex.specs.declared.token.Token.{Token}
@@ -36,9 +36,13 @@ filter_map_push : {X Y : Type 0} (h : X → Option Y) (xs : List X) (x : X) (r :
 filter_map_push h xs x None is = filter_map-append h xs (x ∷ []) ∙ rw is refl
 filter_map_push h xs x (Some y) is = filter_map-append h xs (x ∷ []) ∙ rw is refl
 
-pub cells_more : (text : List ℕ) (value : List Token) (at : ℕ) (d : Token) → at < length value → cells_in text (take (at + 1) value) ≡ cells_in text (take at value) ++ list_of (cell_of text (get_or value at d).kind (get_or value at d))
+cells_more : (text : List ℕ) (value : List Token) (at : ℕ) (d : Token) → at < length value → cells_in text (take (at + 1) value) ≡ cells_in text (take at value) ++ list_of (cell_of text (get_or value at d).kind (get_or value at d))
 unfolding cells_in
 cells_more text value at d inside = rw (take_more value at d inside) (filter_map_push (λ (t : Token). cell_of text t.kind t) (take at value) (get_or value at d) _ refl)
+
+pub cells_pushed : (text : List ℕ) (value : List Token) (at : ℕ) (d : Token) (old new : List ValueCell) (o : Option ValueCell) → at < length value → new ≡ old ++ list_of o → old ≡ cells_in text (take at value) → o ≡ cell_of text (get_or value at d).kind (get_or value at d) → new ≡ cells_in text (take (at + 1) value)
+cells_pushed text value at d old new o inside push before here =
+    push ∙ ap (λ xs. xs ++ list_of o) before ∙ ap (λ r. cells_in text (take at value) ++ list_of r) here ∙ sym (cells_more text value at d inside)
 
 pub strings_more : (text : List ℕ) (value : List Token) (at : ℕ) (d : Token) → at < length value → strings_in text (take (at + 1) value) ≡ strings_in text (take at value) ++ list_of (string_of text (get_or value at d).kind (get_or value at d))
 unfolding strings_in

@@ -1,3 +1,4 @@
+pub mod Firsts
 pub mod Grammar
 pub mod Names
 pub mod Numbered

@@ -1,5 +1,5 @@
 -- The names of a text. A name is told by the first token that has it.
-use Rattle.std.specs.Prelude.{ℕ, ◌+◌, ◌==◌, ◌&&◌, nat_lt, length, List, [], ◌∷◌, Bool, Option, Some, None, slice_index_or, slice_range, if◌then◌else◌}
+use Rattle.std.specs.Prelude.{ℕ, ◌+◌, ◌==◌, ◌&&◌, nat_lt, length, List, [], ◌∷◌, Option, Some, None, slice_index_or, slice_range, if◌then◌else◌}
 use Rattle.std.specs.List.{position_or_len}
 use Rattle.std.specs.Str.{bytes_eq}
 use Rattle.dts_lex.specs.declared.token.Kind.{Kind}
@@ -10,12 +10,12 @@ use Rattle.dts_tree.specs.Value.{bytes_of}
 abbrev pub name_by_kind : List ℕ → Kind → Token → List ℕ
 name_by_kind text kind.Ref t = slice_range text (t.start + 1) t.end
 name_by_kind text kind.Word t = bytes_of text t
-name_by_kind text kind.Number t = bytes_of text t
-name_by_kind text kind.Text t = bytes_of text t
-name_by_kind text kind.Directive t = bytes_of text t
-name_by_kind text kind.Sign t = bytes_of text t
+name_by_kind text kind.Number t = []
+name_by_kind text kind.Text t = []
+name_by_kind text kind.Directive t = []
+name_by_kind text kind.Sign t = []
 
--- the bytes of a token, without the ampersand of a reference
+-- the bytes of a word, or the label that a reference names; another token has the empty name
 abbrev pub name_of : List ℕ → Token → List ℕ
 name_of text t = name_by_kind text t.kind t
 

@@ -1,5 +1,5 @@
 -- What the tokens of a text tell, and where they leave the grammar.
-use Rattle.std.specs.Prelude.{◌≡◌, ◌⊎◌, ℕ, suc, ◌+◌, List, [], ◌∷◌, ◌++◌, Bool, true, false, ◌||◌, Option, Some, None, length, take, slice_get, if◌then◌else◌}
+use Rattle.std.specs.Prelude.{◌≡◌, ◌⊎◌, ℕ, ◌+◌, List, [], ◌∷◌, ◌++◌, Bool, true, false, ◌||◌, Option, Some, None, length, take, slice_get, if◌then◌else◌}
 use Rattle.dts_lex.specs.declared.token.Kind.{Kind}
 use Rattle.dts_lex.specs.declared.token.Kind.TheVariants as kind
 use Rattle.dts_lex.specs.declared.token.Token.{Token}

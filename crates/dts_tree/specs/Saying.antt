@@ -1,9 +1,6 @@
 -- What steps say, with the bytes of names or with their numbers.
-use Rattle.std.specs.Prelude.{ℕ, ◌∷◌, [], List, Bool, true, false, not, ◌&&◌, Option, None, Some, nat_eq, slice_range, is_some}
+use Rattle.std.specs.Prelude.{[], List, Bool, true, false, not, ◌&&◌, Option, slice_range}
 use Rattle.std.specs.List.{find, flat_map}
-use Rattle.std.specs.Option.{option_map}
-use Rattle.std.specs.Map.{lookup}
-use Rattle.std.specs.Str.{bytes_eq}
 use Rattle.dts_lex.specs.declared.token.Kind.{Kind}
 use Rattle.dts_lex.specs.declared.token.Kind.TheVariants as kind
 use Rattle.dts_lex.specs.declared.token.Token.{Token}
@@ -11,7 +8,7 @@ use Rattle.dts_tree.specs.declared.said.Said.{Said}
 use Rattle.dts_tree.specs.declared.said.Said.TheVariants as said
 use Rattle.dts_tree.specs.declared.step.Step.{Step}
 use Rattle.dts_tree.specs.declared.step.Step.TheVariants as step
-use Rattle.dts_tree.specs.Names.{name_of, number_in, token_at}
+use Rattle.dts_tree.specs.Names.{token_at}
 
 -- a step with a name for each of its tokens, and with the bytes' places
 abbrev pub said_with : {N : Type 0} → (Token → N) → List Token → Step → Said N

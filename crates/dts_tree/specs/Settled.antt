@@ -1,8 +1,12 @@
 -- What settings come to.
-use Rattle.std.specs.Prelude.{ℕ, List, [], ◌∷◌, Bool, ◌&&◌, fold, slice_set, if◌then◌else◌}
+use Rattle.std.specs.Prelude.{◌≡◌, ℕ, ◌<◌, ◌^◌, List, [], ◌∷◌, Bool, ◌&&◌, fold, length, map, nat_eq, slice_index, slice_set, if◌then◌else◌}
+use Rattle.std.specs.List.{position_or_len}
 use Rattle.indexmap.specs.IndexMap.{insert_entry}
+use Rattle.dts_tree.specs.declared.settled.Layout.{Layout}
 use Rattle.dts_tree.specs.declared.setting.Setting.{Setting}
 use Rattle.dts_tree.specs.declared.setting.Setting.TheVariants.{Opens, Sets}
+use Rattle.dts_tree.specs.Reader.{AllBelow, path_at}
+use Rattle.dts_tree.specs.Shape.{tree_order_of}
 
 module _ {P N : Type 0} where
   -- where the name of a node stands whose body is opened first, and 0 where none is
@@ -28,3 +32,15 @@ module _ {P N : Type 0} where
 abbrev pub with_place : List ℕ → Setting ℕ ℕ → List ℕ
 with_place places (Opens node at) = slice_set places node at
 with_place places (Sets node name from to) = places
+
+-- the nodes in tree order, the place of each in it, where the name of each stands that is opened first,
+-- and the values that stand in the end
+pub record IsLayout (nodes : List (List ℕ)) (settings : List (Setting ℕ ℕ)) (layout : Layout) : Type 0 where
+  pub few : length layout.order < 2 ^ 32
+  pub order : map (path_at nodes) layout.order ≡ tree_order_of nat_eq nodes
+  pub inside : AllBelow (length nodes) layout.order
+  pub long_ranks : length layout.ranks ≡ length nodes
+  pub ranked : (k : ℕ) → k < length nodes → slice_index layout.ranks k ≡ position_or_len (nat_eq k) layout.order
+  pub long_places : length layout.places ≡ length nodes
+  pub placed : (k : ℕ) → k < length nodes → slice_index layout.places k ≡ first_place (nat_eq k) settings
+  pub values : layout.values.entries ≡ values_of nat_eq nat_eq settings

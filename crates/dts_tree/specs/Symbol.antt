@@ -1,5 +1,5 @@
 -- The classes of tokens of which the grammar speaks.
-use Rattle.std.specs.Prelude.{◌≡◌, ℕ, ◌%◌, List, Bool, false, not, ◌&&◌, ◌||◌, ◌==◌, length, slice_index, slice_range, if◌then◌else◌}
+use Rattle.std.specs.Prelude.{ℕ, ◌%◌, List, Bool, false, not, ◌&&◌, ◌||◌, ◌==◌, length, slice_index, slice_range, if◌then◌else◌}
 use Rattle.std.specs.List.{list_all}
 use Rattle.std.specs.Char.{is_ascii_digit, is_ascii_alphanumeric, is_ascii_hexdigit}
 use Rattle.dts_lex.specs.Shape.{is_last}

@@ -3,6 +3,7 @@
 
 mod cell;
 mod fault;
+mod firsts;
 mod names;
 mod nodes;
 mod order;

@@ -8,12 +8,18 @@ use std::marker::Model;
 
 /// The nodes that are there so far, numbered as they came; the root is 0. Contracts see the list of
 /// their paths.
-#[derive(Drop)]
 pub(crate) struct Nodes {
     /// Of each node but the root the number of its parent, and its name.
     keys: IndexSet<(u32, u32)>,
     /// How far each node is below the root.
     depths: Vec<u32>,
+}
+
+impl Drop for Nodes {
+    /// Ends both parts, so that an owner's code has one call for it.
+    fn drop(self) {
+        let Nodes { keys: _, depths: _ } = self;
+    }
 }
 
 impl Model for Nodes {

@@ -14,7 +14,7 @@ use item_list::Items;
 use std::alloc::{AllocError, Global};
 
 /// Where a text leaves the grammar. Places are those of bytes.
-#[derive(Clone, Copy, Debug, PartialEq, Eq)]
+#[derive(Clone, Copy)]
 pub(crate) enum OutlineFault {
     /// The first byte of a token that can't come there, or the text's length where one is wanted.
     Syntax(u32),
@@ -23,7 +23,7 @@ pub(crate) enum OutlineFault {
 }
 
 /// What a text says up to its first fault of grammar, and that fault.
-#[derive(Debug, Drop)]
+#[derive(Drop)]
 pub(crate) struct Outline {
     pub(crate) steps: Items<Step>,
     pub(crate) fault: Option<OutlineFault>,

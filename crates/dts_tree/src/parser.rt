@@ -9,7 +9,8 @@ use crate::text_reading::reading_of;
 use crate::tree::Tree;
 use dts_lex::Token;
 use dts_lex::laws::spans_rise;
-use std::alloc::Global;
+use item_list::Items;
+use std::alloc::{AllocError, Global};
 
 /// The tree of a text, or its first fault from the left; a reference in a value to a label that no
 /// node has comes after all others. The tokens are those that `lex` gives for the text. At `Memory`
@@ -21,6 +22,18 @@ pub fn parse(alloc: Global, text: &[u8], tokens: &[Token]) -> Result<Tree, TreeF
     ensures fault { IfErr result (λ fault. fault ≢ TreeFault.Memory → IsOutcome text.now tokens.now (Err fault)) }
 {
     spans_rise();
+    let own_text = copied(alloc, text)?;
+    let own_tokens = copied(alloc, tokens)?;
     let read = reading_of(alloc, text, tokens)?;
-    Tree::of_reader(alloc, text, tokens, read.reader, read.names.firsts)
+    Tree::of_reader(alloc, own_text, own_tokens, read.reader, read.names.firsts)
+}
+
+fn copied<T: Copy + Drop>(alloc: Global, items: &[T]) -> Result<Items<T>, AllocError>
+    ensures { IfOk result (λ copy. copy ≡ items.now) }
+{
+    let mut copy = Items::new(alloc);
+    for item in items {
+        copy.push(*item)?;
+    }
+    Ok(copy)
 }

@@ -1,5 +1,5 @@
 /// Where in the grammar a text stands between two tokens. Numbers are places of tokens.
-#[derive(Clone, Copy, Debug, PartialEq, Eq)]
+#[derive(Clone, Copy)]
 pub(crate) enum Place {
     /// At the start of the text.
     Start,

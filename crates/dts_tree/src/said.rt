@@ -1,6 +1,6 @@
 /// What a step of the text says, with the names and the places that it says it with. A name is the
 /// bytes of a word or the number of these bytes.
-#[derive(Clone, Copy, Debug, PartialEq, Eq)]
+#[derive(Drop)]
 pub(crate) enum Said<N> {
     /// A label of the node that comes next.
     Label { name: N, at: u32 },

@@ -1,7 +1,7 @@
 ghost use Rattle.std.specs.Prelude.{◌≡◌, ◌≤◌, ◌<◌, ℕ, List, length, map, nat_eq, is_some, not, ◌&&◌, slice_range, IfOk};
 ghost use Rattle.std.specs.List.{AllByRecursion, find};
 ghost use Rattle.std.specs.Map.{lookup};
-ghost use Rattle.dts_tree.specs.Names.{number_in};
+ghost use Rattle.dts_tree.specs.Names.{number_in, token_at};
 ghost use Rattle.dts_tree.specs.Saying as saying;
 ghost use Rattle.dts_tree.specs.Within.{IsStepWithin};
 
@@ -20,7 +20,8 @@ pub(crate) fn sayings(
 ) -> Result<Vec<Said<u32>>, AllocError>
     requires long { length numbers.now ≡ length tokens.now }
     requires within { AllByRecursion (IsStepWithin (length tokens.now)) steps.now }
-    ensures { IfOk result (λ said. (text : List ℕ) → numbers.now ≡ map (number_in text tokens.now) tokens.now
+    ensures long { IfOk result (λ said. length said.items ≡ length steps.now) }
+    ensures said { IfOk result (λ said. (text : List ℕ) → numbers.now ≡ map (number_in text tokens.now) tokens.now
         → said.items ≡ map (saying.said_with (number_in text tokens.now) tokens.now) steps.now) }
 {
     let mut sayings = Vec::new(alloc);
@@ -40,7 +41,7 @@ fn said_of(tokens: &[Token], numbers: &[u32], step: Step) -> Said<u32>
 {
     match step {
         Step::Label(word) => {
-            let (name, at) = (numbers[word as usize], tokens[word as usize].start);
+            let (name, at) = name_and_place(tokens, numbers, word);
             Said::Label { name, at }
         }
         Step::Root(slash) => {
@@ -48,19 +49,30 @@ fn said_of(tokens: &[Token], numbers: &[u32], step: Step) -> Said<u32>
             Said::Root { at }
         }
         Step::Node(word) => {
-            let (name, at) = (numbers[word as usize], tokens[word as usize].start);
+            let (name, at) = name_and_place(tokens, numbers, word);
             Said::Node { name, at }
         }
         Step::Add(word) => {
-            let (label, at) = (numbers[word as usize], tokens[word as usize].start);
+            let (label, at) = name_and_place(tokens, numbers, word);
             Said::Add { label, at }
         }
         Step::Leave => Said::Leave,
         Step::Property { name, from, to } => {
-            let name = numbers[name as usize];
+            let (name, _) = name_and_place(tokens, numbers, name);
             Said::Property { name, from, to }
         }
     }
+}
+
+/// The number of a token's name, and where the token begins.
+fn name_and_place(tokens: &[Token], numbers: &[u32], word: u32) -> (u32, u32)
+    requires long { length numbers.now ≡ length tokens.now }
+    requires within { word < length tokens.now }
+    ensures name { (text : List ℕ) → numbers.now ≡ map (number_in text tokens.now) tokens.now
+        → result.0 ≡ number_in text tokens.now (token_at tokens.now word) }
+    ensures place { result.1 ≡ (token_at tokens.now word).start }
+{
+    (numbers[word as usize], tokens[word as usize].start)
 }
 
 /// The first reference in a value that names none of the labels: its place in the text.

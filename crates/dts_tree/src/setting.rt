@@ -1,5 +1,5 @@
 /// What a text sets. A node is told by its path or by its number.
-#[derive(Clone, Copy, Debug, PartialEq, Eq)]
+#[derive(Drop)]
 pub(crate) enum Setting<P, N> {
     /// The body of a node is opened, whose name stands at this place.
     Opens {

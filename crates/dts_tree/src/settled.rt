@@ -1,18 +1,63 @@
-ghost use Rattle.std.specs.Prelude.{◌≡◌, ℕ, ◌<◌, ◌≤◌, ◌^◌, [], length, map, IfOk, OnOk, nat_eq, slice_index, slice_index_or};
+ghost use Rattle.std.specs.Prelude.{◌≡◌, ℕ, ◌<◌, ◌≤◌, ◌^◌, [], length, map, IfOk, IfErr, OnOk, nat_eq, slice_index, slice_index_or};
 ghost use Rattle.std.specs.List.{position_or_len};
 ghost use Rattle.dts_tree.specs.Path.{with_path};
 ghost use Rattle.dts_tree.specs.Reader.{path_at, AllBelow};
 ghost use Rattle.dts_tree.specs.Shape.{tree_order_of, ParentsOf};
-ghost use Rattle.dts_tree.specs.Settled.{first_place, values_of, with_value, with_place};
+ghost use Rattle.dts_tree.specs.Settled.{IsLayout, first_place, values_of, with_value, with_place};
 
+use crate::fault::TreeFault;
 use crate::nodes::Nodes;
 use crate::order::tree_order;
 use crate::setting::Setting;
 use indexmap::IndexMap;
+use item_list::Items;
 use std::alloc::{AllocError, Global};
 
+/// Where the nodes of a text stand, and the values that stand in the end.
+#[derive(Drop)]
+pub(crate) struct Layout {
+    /// The numbers of the nodes in tree order.
+    pub(crate) order: Items<u32>,
+    /// The place of each node in the order.
+    pub(crate) ranks: Items<u32>,
+    /// Where the name of each node stands that is opened first.
+    pub(crate) places: Items<u32>,
+    /// By the numbers of nodes and names.
+    pub(crate) values: IndexMap<(u32, u32), (u32, u32)>,
+}
+
+pub(crate) fn layout_of(
+    alloc: Global,
+    nodes: &Nodes,
+    settings: &[Setting<u32, u32>],
+) -> Result<Layout, TreeFault>
+    requires some { 0 < length nodes.now }
+    requires shallow { (k : ℕ) → length (path_at nodes.now k) ≤ 32 }
+    ensures layout { IfOk result (λ layout. IsLayout nodes.now settings.now layout) }
+    ensures fault { IfErr result (λ fault. fault ≡ TreeFault.Memory) }
+{
+    let count = nodes.len();
+    // A text that is short enough for its places has fewer nodes.
+    if count > u32::MAX as usize {
+        return Err(TreeFault::Memory);
+    }
+    let order = order_of(alloc, nodes)?;
+    if order.len() > u32::MAX as usize {
+        return Err(TreeFault::Memory);
+    }
+    let ranks = ranks_of(alloc, order.as_slice(), count)?;
+    let places = places_of(alloc, settings, count)?;
+    let values = values_of(alloc, settings)?;
+    Ok(Layout {
+        order: Items::from_vec(order),
+        ranks: Items::from_vec(ranks),
+        places: Items::from_vec(places),
+        values,
+    })
+}
+
 /// The numbers of the nodes in tree order.
-pub(crate) fn order_of(alloc: Global, nodes: &Nodes) -> Result<Vec<u32>, AllocError>
+fn order_of(alloc: Global, nodes: &Nodes) -> Result<Vec<u32>, AllocError>
     requires some { 0 < length nodes.now }
     requires few { length nodes.now ≤ 2 ^ 32 }
     requires shallow { (k : ℕ) → length (path_at nodes.now k) ≤ 32 }
@@ -43,7 +88,7 @@ fn parents_of(alloc: Global, nodes: &Nodes) -> Result<Vec<u32>, AllocError>
 
 /// Where each number below `count` stands first in the order, and the order's length for one that
 /// doesn't.
-pub(crate) fn ranks_of(alloc: Global, order: &[u32], count: usize) -> Result<Vec<u32>, AllocError>
+fn ranks_of(alloc: Global, order: &[u32], count: usize) -> Result<Vec<u32>, AllocError>
     requires { length order.now < 2 ^ 32 }
     ensures long { IfOk result (λ ranks. length ranks.items ≡ count) }
     ensures ranks { IfOk result (λ ranks. (k : ℕ) → k < count → slice_index ranks.items k ≡ position_or_len (nat_eq k) order.now) }
@@ -61,7 +106,7 @@ pub(crate) fn ranks_of(alloc: Global, order: &[u32], count: usize) -> Result<Vec
 }
 
 /// Where the name of each node stands that is opened first, and 0 for one that isn't opened.
-pub(crate) fn places_of(
+fn places_of(
     alloc: Global,
     settings: &[Setting<u32, u32>],
     count: usize,
@@ -89,7 +134,7 @@ fn put_place(places: &mut Vec<u32>, setting: &Setting<u32, u32>)
 }
 
 /// The values that stand in the end, by the numbers of their nodes and names.
-pub(crate) fn values_of(
+fn values_of(
     alloc: Global,
     settings: &[Setting<u32, u32>],
 ) -> Result<IndexMap<(u32, u32), (u32, u32)>, AllocError>

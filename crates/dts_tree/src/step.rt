@@ -1,5 +1,5 @@
 /// What a text says, piece by piece, in its order. Numbers are places in the list of tokens.
-#[derive(Clone, Copy, Debug, PartialEq, Eq)]
+#[derive(Clone, Copy)]
 pub(crate) enum Step {
     /// A label of the node that comes next: its word. It is told at its colon, so at the end of the
     /// steps there may be labels behind which no node comes.

@@ -6,7 +6,7 @@ ghost use Rattle.dts_tree.specs.Symbol as symbol;
 use dts_lex::{Kind, Token, is_last};
 
 /// The class of a token, as far as the grammar asks for it.
-#[derive(Clone, Copy, Debug, PartialEq, Eq)]
+#[derive(Clone, Copy)]
 pub(crate) enum Symbol {
     /// `/dts-v1/`
     Version,

@@ -1,18 +1,21 @@
-ghost use Rattle.std.specs.Prelude.{◌≡◌, ◌≢◌, ◌≤◌, ℕ, List, length, IfOk, IfErr};
-ghost use Rattle.std.specs.BTreeMap.{get_by};
-ghost use Rattle.std.specs.Cmp.Lexicographic.{slice_cmp};
-ghost use Rattle.std.specs.Ordering.{nat_cmp};
+ghost use Rattle.std.specs.Prelude.{◌≡◌, ◌≢◌, ◌≤◌, ◌<◌, ◌^◌, ℕ, List, length, map, nat_eq, IfOk, IfErr};
+ghost use Rattle.std.specs.List.{AllByRecursion};
 ghost use Rattle.dts_lex.specs.Lex.{SpansRise};
-ghost use Rattle.dts_tree.specs.Names.{first_with, known_before};
-ghost use Rattle.dts_tree.specs.Reader.{Standing};
+ghost use Rattle.dts_tree.specs.Firsts.{found_in};
+ghost use Rattle.dts_tree.specs.Names.{first_with, known_before, number_in};
+ghost use Rattle.dts_tree.specs.Reader.{reading, Standing};
+ghost use Rattle.dts_tree.specs.Reading.{nothing_read, walked};
+ghost use Rattle.dts_tree.specs.Saying.{said_with};
 ghost use Rattle.dts_tree.specs.TextReading.{IsOutcome, reading_in, tree_fault};
 ghost use Rattle.dts_tree.specs.Tree.{AreNamed};
+ghost use Rattle.dts_tree.specs.Within.{IsStepWithin};
 
 use crate::fault::TreeFault;
 use crate::names::{Names, names_of};
 use crate::outline::{OutlineFault, outline_of};
 use crate::reader::{Reader, read};
 use crate::saying::{sayings, unknown_ref};
+use crate::step::Step;
 use dts_lex::Token;
 use std::alloc::Global;
 
@@ -35,18 +38,17 @@ pub(crate) fn reading_of(
     ensures standing { IfOk result (λ r. Standing r.reader) }
     ensures named { IfOk result (λ r. AreNamed text.now tokens.now r.reader.nodes) }
     ensures firsts { IfOk result (λ r. (q : List ℕ)
-        → get_by (λ k. slice_cmp nat_cmp q k.items) r.names.firsts ≡ known_before (first_with text.now tokens.now q) (length tokens.now)) }
+        → found_in r.names.firsts q ≡ known_before (first_with text.now tokens.now q) (length tokens.now)) }
     ensures fault { IfErr result (λ fault. fault ≢ TreeFault.Memory → IsOutcome text.now tokens.now (Err fault)) }
 {
     let outline = outline_of(alloc, text, tokens)?;
     let names = names_of(alloc, text, tokens)?;
-    let said = sayings(
+    let reader = read_steps(
         alloc,
         tokens,
         names.numbers.as_slice(),
         outline.steps.as_slice(),
     )?;
-    let reader = read(alloc, said.as_slice())?;
     if let Some(fault) = outline.fault {
         return Err(tree_fault(fault));
     }
@@ -59,6 +61,26 @@ pub(crate) fn reading_of(
         Some(token) => Err(TreeFault::NoLabel(token.start)),
         None => Ok(TextReading { reader, names }),
     }
+}
+
+/// Reads the steps of a text whose tokens have these names.
+fn read_steps(
+    alloc: Global,
+    tokens: &[Token],
+    numbers: &[u32],
+    steps: &[Step],
+) -> Result<Reader, TreeFault>
+    requires long { length numbers.now ≡ length tokens.now }
+    requires within { AllByRecursion (IsStepWithin (length tokens.now)) steps.now }
+    requires few { length steps.now < 2 ^ 32 }
+    ensures standing { IfOk result (λ reader. Standing reader) }
+    ensures ok { IfOk result (λ reader. (text : List ℕ) → numbers.now ≡ map (number_in text tokens.now) tokens.now
+        → walked nat_eq nothing_read (map (said_with (number_in text tokens.now) tokens.now) steps.now) ≡ Ok (reading reader)) }
+    ensures fault { IfErr result (λ fault. fault ≢ TreeFault.Memory → (text : List ℕ) → numbers.now ≡ map (number_in text tokens.now) tokens.now
+        → walked nat_eq nothing_read (map (said_with (number_in text tokens.now) tokens.now) steps.now) ≡ Err fault) }
+{
+    let said = sayings(alloc, tokens, numbers, steps)?;
+    read(alloc, said.as_slice())
 }
 
 fn tree_fault(fault: OutlineFault) -> TreeFault

@@ -1,25 +1,22 @@
 ghost use Rattle.std.specs.Prelude.{◌≡◌, ◌<◌, ◌≤◌, ◌^◌, ℕ, List, [], length, slice_index, slice_index_or, slice_range, IfOk, IfErr};
-ghost use Rattle.std.specs.BTreeMap.{get_by};
-ghost use Rattle.std.specs.Cmp.Lexicographic.{slice_cmp};
-ghost use Rattle.std.specs.Ordering.{nat_cmp};
+ghost use Rattle.dts_tree.specs.Firsts.{found_in};
 ghost use Rattle.dts_tree.specs.Names.{first_with, known_before};
 ghost use Rattle.dts_tree.specs.Tree.{own_name, parent_among};
 
 use crate::fault::TreeFault;
+use crate::firsts::Firsts;
 use crate::names::name_of;
 use crate::nodes::Nodes;
 use crate::reader::Reader;
-use crate::settled::{order_of, places_of, ranks_of, values_of};
+use crate::settled::{Layout, layout_of};
 use dts_lex::Token;
 use indexmap::IndexMap;
 use item_list::Items;
 use std::alloc::{AllocError, Global};
-use std::collections::BTreeMap;
 use std::marker::Model;
 
 /// The tree of a devicetree text: its nodes in tree order, each before its children, and their
 /// properties. The root is node 0 and has the empty name.
-#[derive(Drop)]
 pub struct Tree {
     text: Items<u8>,
     tokens: Items<Token>,
@@ -31,21 +28,35 @@ pub struct Tree {
     places: Items<u32>,
     labels: IndexMap<u32, u32>,
     values: IndexMap<(u32, u32), (u32, u32)>,
-    /// The number of each name, by its bytes.
-    firsts: BTreeMap<Vec<u8>, u32>,
+    firsts: Firsts,
+}
+
+impl Drop for Tree {
+    /// Ends all parts, so that an owner's code has one call for it.
+    fn drop(self) {
+        let Tree {
+            text: _,
+            tokens: _,
+            nodes: _,
+            order: _,
+            ranks: _,
+            places: _,
+            labels: _,
+            values: _,
+            firsts: _,
+        } = self;
+    }
 }
 
 impl Model for Tree {
-    ghost use Rattle.std.specs.BTreeMap.{get_by};
-    ghost use Rattle.std.specs.Cmp.Lexicographic.{slice_cmp};
-    ghost use Rattle.std.specs.Ordering.{nat_cmp};
+    ghost use Rattle.dts_tree.specs.Firsts.{found_in};
     ghost use Rattle.dts_tree.specs.Tree.{DeviceTree, kept_tree, Settled};
 
     ghost Value = { DeviceTree };
 
     ghost view = { λ t. kept_tree t.text t.tokens t.nodes t.order t.places t.labels.entries t.values.entries };
 
-    ghost invariant = { λ t. Settled t.text t.tokens t.nodes t.order t.ranks t.places t.labels.entries t.values.entries (λ q. get_by (λ k. slice_cmp nat_cmp q k.items) t.firsts) };
+    ghost invariant = { λ t. Settled t.text t.tokens t.nodes t.order t.ranks t.places t.labels.entries t.values.entries (found_in t.firsts) };
 }
 
 impl Tree {
@@ -56,44 +67,34 @@ impl Tree {
     /// The tree of what was read of a text.
     pub(crate) fn of_reader(
         alloc: Global,
-        text: &[u8],
-        tokens: &[Token],
+        text: Items<u8>,
+        tokens: Items<Token>,
         reader: Reader,
-        firsts: BTreeMap<Vec<u8>, u32>,
+        firsts: Firsts,
     ) -> Result<Tree, TreeFault>
+        requires bytes { (i : ℕ) → slice_index text i < 256 }
         requires standing { Standing reader }
-        requires firsts { (q : List ℕ) → get_by (λ k. slice_cmp nat_cmp q k.items) firsts ≡ known_before (first_with text.now tokens.now q) (length tokens.now) }
-        requires named { AreNamed text.now tokens.now reader.nodes }
-        ensures tree { IfOk result (λ tree. tree ≡ tree_of text.now tokens.now (reading_in text.now tokens.now reader)) }
+        requires firsts { (q : List ℕ) → found_in firsts q ≡ known_before (first_with text tokens q) (length tokens) }
+        requires named { AreNamed text tokens reader.nodes }
+        ensures tree { IfOk result (λ tree. tree ≡ tree_of text tokens (reading_in text tokens reader)) }
         ensures fault { IfErr result (λ fault. fault ≡ TreeFault.Memory) }
     {
-        let Reader {
-            nodes,
-            labels,
-            settings,
-            ..
-        } = reader;
-        let count = nodes.len();
-        // A text that is short enough for its places has fewer nodes.
-        if count > u32::MAX as usize {
-            return Err(TreeFault::Memory);
-        }
-        let order = order_of(alloc, &nodes)?;
-        if order.len() > u32::MAX as usize {
-            return Err(TreeFault::Memory);
-        }
-        let ranks = ranks_of(alloc, order.as_slice(), count)?;
-        let places = places_of(alloc, settings.as_slice(), count)?;
-        let values = values_of(alloc, settings.as_slice())?;
-        let text = copied(alloc, text)?;
-        let tokens = copied(alloc, tokens)?;
+        reader.nodes.apart();
+        let layout = layout_of(alloc, &reader.nodes, reader.settings.as_slice())?;
+        let Layout {
+            order,
+            ranks,
+            places,
+            values,
+        } = layout;
+        let Reader { nodes, labels, .. } = reader;
         Ok(Tree {
             text,
             tokens,
             nodes,
-            order: Items::from_vec(order),
-            ranks: Items::from_vec(ranks),
-            places: Items::from_vec(places),
+            order,
+            ranks,
+            places,
             labels,
             values,
             firsts,
@@ -172,7 +173,7 @@ impl Tree {
         let Some(name) = self.firsts.get(prop) else {
             return None;
         };
-        match self.values.get(&(number, *name)) {
+        match self.values.get(&(number, name)) {
             Some(value) => Some(tokens_between(self.tokens.as_slice(), value.0, value.1)),
             None => None,
         }
@@ -187,7 +188,7 @@ impl Tree {
         let Some(name) = self.firsts.get(label) else {
             return none;
         };
-        match self.labels.get(name) {
+        match self.labels.get(&name) {
             Some(node) => self.ranks.as_slice()[*node as usize],
             None => none,
         }
@@ -201,14 +202,4 @@ fn tokens_between(tokens: &[Token], from: u32, to: u32) -> &[Token]
     let to = (to as usize).min(tokens.len());
     let from = (from as usize).min(to);
     &tokens[from..to]
-}
-
-fn copied<T: Copy + Drop>(alloc: Global, items: &[T]) -> Result<Items<T>, AllocError>
-    ensures { IfOk result (λ copy. copy ≡ items.now) }
-{
-    let mut copy = Items::new(alloc);
-    for item in items {
-        copy.push(*item)?;
-    }
-    Ok(copy)
 }

@@ -7,7 +7,7 @@ use crate::step::Step;
 use crate::symbol::Symbol;
 
 /// What a token leads to.
-#[derive(Clone, Copy, Debug, PartialEq, Eq)]
+#[derive(Clone, Copy)]
 pub(crate) struct Turn {
     pub(crate) place: Place,
     /// How many bodies are open.

@@ -7,7 +7,7 @@ use dts_lex::{Kind, Token, number_of};
 use std::alloc::{AllocError, Global};
 
 /// A cell of a value, as it is written.
-#[derive(Clone, Copy, Debug, PartialEq, Eq)]
+#[derive(Clone, Copy)]
 pub(crate) enum ValueCell {
     Number(u32),
     /// A reference by a label: its token.

@@ -1,4 +1,4 @@
-use Rattle.std.proofs.Common.{◌≡◌, ◌∙◌, ap, sym, length, Ok}
+use Rattle.std.proofs.Common.{◌∙◌, ap, sym, length, Ok}
 use Rattle.dts_tree.specs.Tree.{DeviceTree}
 use Rattle.dts_count.proofs.count.count_of.Goals as goal
 

@@ -1,10 +1,8 @@
-use Rattle.std.proofs.Common.{◌≡◌, ◌∙◌, ap, sym, arith, get_or, cond, Some, None}
-use Rattle.std.specs.BTreeMap.{get_by}
-use Rattle.std.specs.Cmp.Lexicographic.{slice_cmp}
-use Rattle.std.specs.Ordering.{nat_cmp}
+use Rattle.std.proofs.Common.{◌≡◌, ◌∙◌, ap, arith, get_or, cond, Some, None}
 use Rattle.std.specs.Str.{bytes_eq}
 use Rattle.dts_lex.specs.declared.token.Token.{Token}
 use Rattle.dts_lex.specs.declared.token.Kind.TheVariants as kind
+use Rattle.dts_tree.specs.Firsts.{found_in}
 use Rattle.dts_tree.specs.Names.{name_of, number_in, or_else, or_this}
 use Rattle.dts_tree.proofs.NamesLemmas.{known_more, number_here, map_more}
 use Rattle.dts_tree.proofs.names.names_of.Goals as goal
@@ -21,7 +19,8 @@ loop-at-preserved c =
     let name : c.name_of.result.now ≡ name_of text (get_or tokens at blank) = c.name_of.ensures in
     rw c.in_ok-push.ensures.ok (record {
       inside = omega arith;
-      known = λ q. c.in_ok-number.ensures.known q ∙ ap (λ n. or_else (get_by (λ k. slice_cmp nat_cmp q k.items) c.loop-at.firsts) (cond (bytes_eq n q) (Some at) None)) name ∙ known_more text tokens at blank c.loop-at-test.true q _ (now.known q);
+      shelved = omega (arith, c.number.ensures.shelved, now.shelved);
+      known = λ q. c.in_ok-number.ensures.known q ∙ ap (λ n. or_else (found_in c.loop-at.firsts q) (cond (bytes_eq n q) (Some at) None)) name ∙ known_more text tokens at blank c.loop-at-test.true q _ (now.known q);
       numbers = map_more (number_in text tokens) tokens at blank c.loop-at.numbers c.in_ok-number.number c.loop-at-test.true now.numbers
-          (c.in_ok-number.ensures.number ∙ ap (λ n. or_this (get_by (λ k. slice_cmp nat_cmp n k.items) c.loop-at.firsts) at) name ∙ number_here text tokens at blank c.loop-at-test.true _ (now.known (name_of text (get_or tokens at blank))));
+          (c.in_ok-number.ensures.number ∙ ap (λ n. or_this (found_in c.loop-at.firsts n) at) name ∙ number_here text tokens at blank c.loop-at-test.true _ (now.known (name_of text (get_or tokens at blank))));
     })

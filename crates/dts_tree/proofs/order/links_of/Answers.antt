@@ -1,4 +1,4 @@
-use Rattle.std.proofs.Common.{◌≡◌, ◌+◌, ◌-◌, ◌<◌, ◌≤◌, ap, sym, ◌∙◌, refl, ℕ, None, Some, Option, get_or, set, length, arith, rules}
+use Rattle.std.proofs.Common.{◌≡◌, ◌+◌, ◌-◌, ◌<◌, sym, ◌∙◌, None, get_or, length, arith, rules}
 use Rattle.std.proofs.lemmas.List.{get_or_read}
 use Rattle.dts_tree.proofs.OrderLemmas.{linked_start, linked_more, linked_all, none_each, LinkedFrom}
 use Rattle.dts_tree.proofs.order.links_of.Goals as goal

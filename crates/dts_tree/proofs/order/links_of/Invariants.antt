@@ -1,4 +1,4 @@
-use Rattle.std.proofs.Common.{◌≡◌, ◌<◌, ◌≤◌, length}
+use Rattle.std.proofs.Common.{◌≤◌, length}
 use Rattle.dts_tree.proofs.OrderLemmas.{LinkedFrom}
 use Rattle.dts_tree.proofs.order.links_of.Given as goal
 

@@ -1,11 +1,9 @@
-use Rattle.std.proofs.Common.{◌≡◌, ◌≤◌, ◌<◌, ◌++◌, ◌∙◌, [], length, take, get_or, refl, sym, ap, subst, inl, inr, arith, true, false, Some, None, Option, List, ℕ}
+use Rattle.std.proofs.Common.{◌≡◌, ◌∙◌, length, take, refl, sym, subst, inl, inr, arith, true, false, List}
 use Rattle.std.proofs.lemmas.List.{take_all, length-append}
 use Rattle.dts_lex.specs.declared.token.Token.{Token}
 use Rattle.dts_lex.specs.declared.token.Kind.TheVariants as kind
-use Rattle.dts_tree.specs.declared.step.Step.{Step}
-use Rattle.dts_tree.specs.declared.outline.OutlineFault.{OutlineFault}
-use Rattle.dts_tree.specs.Outline.{IsOutline, list_of}
-use Rattle.dts_tree.proofs.OutlineLemmas.{ReadTo, SpansRise-count, SpansRise-at, read_start, read_tells, read_whole, read_short, step_more, step_wrong, steps_more, steps_wider}
+use Rattle.dts_tree.specs.Outline.{list_of}
+use Rattle.dts_tree.proofs.OutlineLemmas.{ReadTo, SpansRise-count, SpansRise-at, read_tells, read_whole, read_short, step_more, step_wrong, steps_more, steps_wider}
 use Rattle.dts_tree.proofs.outline.outline_of.Goals as goal
 use Rattle.dts_tree.proofs.outline.outline_of.Goals.{then-is_whole, else-is_whole}
 

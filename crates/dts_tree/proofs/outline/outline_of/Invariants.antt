@@ -1,4 +1,4 @@
-use Rattle.std.proofs.Common.{◌≡◌, ◌≤◌, ◌-◌, ◌+◌, length, take}
+use Rattle.std.proofs.Common.{◌≤◌, ◌-◌, ◌+◌, length, take}
 use Rattle.std.specs.List.{AllByRecursion}
 use Rattle.dts_tree.specs.Within.{IsStepWithin, IsPlaceWithin, silent}
 use Rattle.dts_tree.proofs.OutlineLemmas.{ReadTo}

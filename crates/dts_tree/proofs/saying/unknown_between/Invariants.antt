@@ -1,4 +1,4 @@
-use Rattle.std.proofs.Common.{◌≡◌, ◌≤◌, ◌-◌, ℕ, List, length, map}
+use Rattle.std.proofs.Common.{◌≡◌, ◌≤◌, ◌-◌, ℕ, List, map}
 use Rattle.std.specs.Prelude.{nat_eq, is_some, slice_range}
 use Rattle.std.specs.Map.{lookup}
 use Rattle.std.specs.List.{find}

@@ -1,7 +1,7 @@
-use Rattle.std.proofs.Common.{◌≡◌, ◌-◌, ◌+◌, ◌<◌, ◌∙◌, ◌∷◌, ap, sym, length, get_or, drop, nat_eq, arith}
+use Rattle.std.proofs.Common.{◌≡◌, ◌-◌, ◌+◌, ◌∙◌, ◌∷◌, ap, sym, length, get_or, drop, nat_eq, arith}
 use Rattle.std.proofs.lemmas.List.{drop_more}
 use Rattle.dts_tree.specs.declared.setting.Setting.TheVariants.{Opens}
-use Rattle.dts_tree.specs.Settled.{first_place, with_place}
+use Rattle.dts_tree.specs.Settled.{first_place}
 use Rattle.dts_tree.proofs.SettledLemmas.{with_place-length, place-step}
 use Rattle.dts_tree.proofs.settled.places_of.Goals as goal
 

@@ -1,4 +1,4 @@
-use Rattle.std.proofs.Common.{◌≡◌, ◌-◌, suc, arith}
+use Rattle.std.proofs.Common.{◌-◌, arith}
 use Rattle.dts_tree.proofs.TurnLemmas.{inside_slash, inside_ref, inside_close, inside_word}
 use Rattle.dts_tree.proofs.turn.inside.Goals as goal
 

@@ -1,9 +1,8 @@
-use Rattle.std.proofs.Common.{◌≡◌, ◌∙◌, ◌++◌, ap, refl, sym, take, true, false, arith}
+use Rattle.std.proofs.Common.{◌≡◌, ◌∙◌, refl, sym, true, false, arith}
 use Rattle.dts_lex.specs.declared.token.Token.{Token}
 use Rattle.dts_lex.specs.declared.token.Kind.TheVariants as kind
-use Rattle.dts_tree.specs.Outline.{list_of}
-use Rattle.dts_tree.specs.Value.{is_less, cells_in}
-use Rattle.dts_tree.proofs.ValueLemmas.{begins_more, parts_more, part_fails, cells_more, no_cells}
+use Rattle.dts_tree.specs.Value.{is_less}
+use Rattle.dts_tree.proofs.ValueLemmas.{begins_more, parts_more, part_fails, cells_pushed, no_cells}
 use Rattle.dts_tree.proofs.value.cells_of.Goals as goal
 use Rattle.dts_tree.proofs.value.cells_of.Goals.{else-begins-via-then-begins+else-not-is_less, else-begins-via-else-begins}
 
@@ -33,6 +32,5 @@ loop-at-preserved c =
             | else-begins-via-then-begins+else-not-is_less w ↦ sym w.is_less.ensures ∙ w.if-not-is_less.false
             | else-begins-via-else-begins w ↦ absurd (let e : true ≡ false = sym begins ∙ sym now.begins ∙ w.if-begins.false in cc)
           ]);
-      cells = c.in_ok-push_some.ensures ∙ ap (λ xs. xs ++ list_of c.cell_of.result) now.cells ∙ ap (λ r. cells_in c.args.text.now (take c.loop-at.at c.args.value.now) ++ list_of r) c.cell_of.ensures
-          ∙ sym (cells_more c.args.text.now c.args.value.now c.loop-at.at blank c.loop-at-test.true);
+      cells = cells_pushed c.args.text.now c.args.value.now c.loop-at.at blank c.loop-at.cells.items c.push_some.new.items.items c.cell_of.result c.loop-at-test.true c.in_ok-push_some.ensures now.cells c.cell_of.ensures;
     }

@@ -1,7 +1,7 @@
-use Rattle.std.proofs.Common.{◌≡◌, ◌∙◌, ◌++◌, ap, refl, sym, map, take, true, false, arith}
+use Rattle.std.proofs.Common.{◌≡◌, ◌∙◌, ap, refl, sym, map, true, false, arith}
 use Rattle.dts_lex.specs.declared.token.Token.{Token}
 use Rattle.dts_lex.specs.declared.token.Kind.TheVariants as kind
-use Rattle.dts_tree.specs.Value.{is_text, strings_in}
+use Rattle.dts_tree.specs.Value.{is_text}
 use Rattle.dts_tree.proofs.ValueLemmas.{begins_more, parts_more, part_fails, map_push, strings_more, no_strings}
 use Rattle.dts_tree.proofs.value.strings_of.Goals as goal
 use Rattle.dts_tree.proofs.value.strings_of.Goals.{else-begins-via-then-begins+else-not-is_text, else-begins-via-else-begins}

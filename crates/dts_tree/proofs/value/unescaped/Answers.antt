@@ -1,6 +1,6 @@
-use Rattle.std.proofs.Common.{◌≡◌, ◌∙◌, ◌++◌, ◌+◌, ap, drop, get_or, arith}
-use Rattle.dts_tree.specs.Value.{escaped, unescaped}
-use Rattle.dts_tree.proofs.ValueLemmas.{unescaped_escape, unescaped_other, unescaped_end, left_on}
+use Rattle.std.proofs.Common.{◌+◌, drop, get_or, arith}
+use Rattle.dts_tree.specs.Value.{unescaped}
+use Rattle.dts_tree.proofs.ValueLemmas.{unescaped_other, unescaped_end, left_on}
 use Rattle.dts_tree.proofs.value.unescaped.Goals as goal
 use Rattle.dts_tree.proofs.value.unescaped.Goals.{else-b-eq92-via-then-b-eq92+else-at-inside, else-b-eq92-via-else-b-eq92}
 

@@ -1,7 +1,7 @@
-use Rattle.std.proofs.Common.{◌≡◌, ◌∷◌, ◌++◌, [], ◌<◌, ap, sym, ◌∙◌, length, arith, false, ℕ, List, subst, nat_eq, get_or}
+use Rattle.std.proofs.Common.{◌≡◌, ◌∷◌, ◌++◌, [], ◌<◌, ap, sym, ◌∙◌, length, false, ℕ, List, subst, nat_eq, get_or}
 use Rattle.std.specs.Cmp.Lexicographic.{pointwise}
 use Rattle.std.proofs.lemmas.Bool.{cond-false}
-use Rattle.std.specs.List.{list_any, position}
+use Rattle.std.specs.List.{list_any}
 use Rattle.dts_tree.specs.Path.{paths_of}
 use Rattle.dts_tree.specs.Numbered.{same_key}
 use Rattle.dts_tree.proofs.NumberedLemmas.{child_known, child_new, numbered_new, path_eq-numbers, depth_at, depths_long, paths_of-push}

@@ -1,4 +1,4 @@
-use Rattle.std.proofs.Common.{◌≡◌, ◌<◌, ◌-◌, ◌+◌, List, ℕ, [], length, subst, nat_eq, get_or, sym, arith, false, true}
+use Rattle.std.proofs.Common.{◌≡◌, ◌<◌, ◌-◌, List, ℕ, [], length, subst, nat_eq, get_or, sym, arith, false, true}
 use Rattle.std.specs.Cmp.Lexicographic.{pointwise}
 use Rattle.std.proofs.lemmas.Option.{get_or_from_slice_get}
 use Rattle.dts_tree.specs.Path.{paths_of}

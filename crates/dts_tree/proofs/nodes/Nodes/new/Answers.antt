@@ -1,4 +1,4 @@
-use Rattle.std.proofs.Common.{sym, ◌≡◌, ◌∙◌, ◌++◌, ap, List, [], ◌∷◌, ℕ}
+use Rattle.std.proofs.Common.{◌≡◌, ◌∙◌, ◌++◌, ap, List, [], ◌∷◌, ℕ}
 use Rattle.dts_tree.proofs.NumberedLemmas.{numbered_root, paths_of-none, none_long}
 use Rattle.dts_tree.proofs.nodes.Nodes.new.Goals as goal
 

@@ -1,9 +1,8 @@
-use Rattle.std.proofs.Common.{◌≡◌, ◌<◌, ◌∙◌, ◌∷◌, [], Some, None, ap, sym, length, nat_eq, refl}
+use Rattle.std.proofs.Common.{◌<◌, ◌∙◌, ◌∷◌, [], ap, sym, length, nat_eq, refl}
 use Rattle.std.proofs.lemmas.List.{reverse-append}
-use Rattle.std.specs.Map.{lookup}
 use Rattle.std.specs.Option.{option_map}
 use Rattle.dts_tree.specs.Reading.{added}
-use Rattle.dts_tree.specs.Reader.{reading, label_at, path_at}
+use Rattle.dts_tree.specs.Reader.{reading, path_at}
 use Rattle.dts_tree.proofs.ReaderLemmas.{lookup-labels, lookup-below}
 use Rattle.dts_tree.proofs.reader.Reader.add.Goals as goal
 
@@ -11,6 +10,9 @@ pub returns-in_default-clause-fault : goal.returns-in_default-clause-fault
 returns-in_default-clause-fault c = λ _.
     let self = c.args.self.now in
     ap (added nat_eq (reading self) c.args.at) (lookup-labels self.nodes c.args.label self.labels.entries ∙ ap (option_map (path_at self.nodes)) (sym c.in_default.ensures.value))
+
+pub returns-in_default-clause-ok : goal.returns-in_default-clause-ok
+returns-in_default-clause-ok c = tt
 
 pub returns-clause-standing : goal.returns-clause-standing
 returns-clause-standing c =

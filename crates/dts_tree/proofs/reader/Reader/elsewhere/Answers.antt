@@ -1,2 +1,0 @@
-use Rattle.std.proofs.Common.{◌≡◌}
-use Rattle.dts_tree.proofs.reader.Reader.elsewhere.Goals as goal

@@ -1,4 +1,4 @@
-use Rattle.std.proofs.Common.{◌≡◌, ◌∷◌, ◌∙◌, [], ap, length, reverse}
+use Rattle.std.proofs.Common.{◌≡◌, ◌∷◌, ◌∙◌, [], ap, length}
 use Rattle.std.proofs.lemmas.List.{reverse-append}
 use Rattle.dts_tree.specs.Reader.{node_of, with_labels_at}
 use Rattle.dts_tree.proofs.ReaderLemmas.{all_below-push, put-below, open-reading}

@@ -1,7 +1,5 @@
-use Rattle.std.proofs.Common.{◌≡◌, ◌<◌, ◌∙◌, ◌∷◌, Some, ap, sym, length, get_or, nat_eq, arith}
-use Rattle.dts_tree.specs.Names.{name_of, token_at}
-use Rattle.dts_tree.specs.Tree.{own_name, parent_among}
-use Rattle.dts_tree.proofs.TreeLemmas.{below-at, tree-inside, tree-count, tree-node, tree-place, tree-root, tree-child, tree-parent}
+use Rattle.std.proofs.Common.{◌<◌, length}
+use Rattle.dts_tree.proofs.TreeLemmas.{below-at, tree-inside, tree-place}
 use Rattle.dts_tree.proofs.tree.Tree.at.Goals as goal
 
 pub bounds-as_slice-node : goal.bounds-as_slice-node

@@ -1,7 +1,6 @@
-use Rattle.std.proofs.Common.{◌≡◌, ◌<◌, ◌∙◌, ◌∷◌, Some, ap, sym, length, get_or, nat_eq, arith}
-use Rattle.dts_tree.specs.Names.{name_of, token_at}
-use Rattle.dts_tree.specs.Tree.{own_name, parent_among}
-use Rattle.dts_tree.proofs.TreeLemmas.{below-at, tree-inside, tree-count, tree-node, tree-place, tree-root, tree-child, tree-parent}
+use Rattle.std.proofs.Common.{◌≡◌, ◌<◌, ◌∙◌, Some, ap, sym, length, get_or, arith}
+use Rattle.dts_tree.specs.Tree.{parent_among}
+use Rattle.dts_tree.proofs.TreeLemmas.{below-at, tree-inside, tree-root, tree-child, tree-parent}
 use Rattle.dts_tree.proofs.tree.Tree.parent.Goals as goal
 
 pub bounds-as_slice-node : goal.bounds-as_slice-node

@@ -1,4 +1,4 @@
-use Rattle.std.proofs.Common.{◌∙◌, sym}
+use Rattle.std.proofs.Common.{◌∙◌}
 use Rattle.dts_tree.proofs.TreeLookLemmas.{tree-value-count}
 use Rattle.dts_tree.proofs.tree.Tree.property_count.Goals as goal
 

@@ -1,4 +1,4 @@
-use Rattle.std.proofs.Common.{◌≡◌, ◌<◌, ◌∙◌, Some, None, ap, sym, length, get_or, arith}
+use Rattle.std.proofs.Common.{◌≡◌, ◌<◌, ◌∙◌, Some, ap, sym, length, get_or, arith}
 use Rattle.std.specs.Prelude.{slice_range}
 use Rattle.std.specs.Option.{option_map}
 use Rattle.dts_tree.proofs.TreeLemmas.{below-at, tree-inside}
@@ -13,7 +13,7 @@ bounds-as_slice-node c =
 pub returns-in_default : goal.returns-in_default
 returns-in_default c =
     let t = c.self.inside in
-    value_none t.text t.tokens t.nodes t.order t.places t.labels.entries t.values.entries c.args.self.now c.self.view_is c.self.invariant.bytes c.apart.ensures c.args.prop.now c.args.node (omega (arith, c.type_inv.prop 0)) (sym (c.self.invariant.found c.args.prop.now) ∙ sym c.in_default.ensures.value)
+    value_none t.text t.tokens t.nodes t.order t.places t.labels.entries t.values.entries c.args.self.now c.self.view_is c.self.invariant.bytes c.apart.ensures c.args.prop.now c.args.node (omega (arith, c.type_inv.prop 0)) (sym (c.self.invariant.found c.args.prop.now) ∙ sym c.in_default.ensures)
 
 pub returns-in-Some-get : goal.returns-in-Some-get
 returns-in-Some-get c =
@@ -22,7 +22,7 @@ returns-in-Some-get c =
     let k = get_or c.as_slice.result.now c.args.node 0 in
     let here : k ≡ get_or t.order c.args.node 0 = ap (λ xs. get_or xs c.args.node 0) c.as_slice.ensures in
     let below : k < length t.nodes = rw here (below-at (length t.nodes) t.order c.args.node c.self.invariant.inside inside) in
-    value_some t.text t.tokens t.nodes t.order t.places t.labels.entries t.values.entries c.args.self.now c.self.view_is c.self.invariant.bytes c.apart.ensures c.args.prop.now c.args.node k c.in-Some.name.now inside here below (sym (c.self.invariant.found c.args.prop.now) ∙ sym c.in-Some.ensures.value) c.self.invariant.values_below
+    value_some t.text t.tokens t.nodes t.order t.places t.labels.entries t.values.entries c.args.self.now c.self.view_is c.self.invariant.bytes c.apart.ensures c.args.prop.now c.args.node k c.in-Some.name inside here below (sym (c.self.invariant.found c.args.prop.now) ∙ sym c.in-Some.ensures) c.self.invariant.values_below
     ∙ ap (option_map (λ r. slice_range t.tokens r.0 r.1)) (sym c.in-Some-get.ensures.value)
     ∙ ap Some (ap (λ ts. slice_range ts c.in-Some-get.value.now.0 c.in-Some-get.value.now.1) (sym c.as_slice-in-Some-get.ensures) ∙ sym c.tokens_between.ensures)
 
@@ -33,5 +33,5 @@ returns-in-None c =
     let k = get_or c.as_slice.result.now c.args.node 0 in
     let here : k ≡ get_or t.order c.args.node 0 = ap (λ xs. get_or xs c.args.node 0) c.as_slice.ensures in
     let below : k < length t.nodes = rw here (below-at (length t.nodes) t.order c.args.node c.self.invariant.inside inside) in
-    value_some t.text t.tokens t.nodes t.order t.places t.labels.entries t.values.entries c.args.self.now c.self.view_is c.self.invariant.bytes c.apart.ensures c.args.prop.now c.args.node k c.in-Some.name.now inside here below (sym (c.self.invariant.found c.args.prop.now) ∙ sym c.in-Some.ensures.value) c.self.invariant.values_below
+    value_some t.text t.tokens t.nodes t.order t.places t.labels.entries t.values.entries c.args.self.now c.self.view_is c.self.invariant.bytes c.apart.ensures c.args.prop.now c.args.node k c.in-Some.name inside here below (sym (c.self.invariant.found c.args.prop.now) ∙ sym c.in-Some.ensures) c.self.invariant.values_below
     ∙ ap (option_map (λ r. slice_range t.tokens r.0 r.1)) (sym c.in-None.ensures.value)

@@ -1,4 +1,4 @@
-use Rattle.std.proofs.Common.{◌≡◌, ◌∙◌, Some, [], ap, sym, get_or, nat_eq, arith, below_more}
+use Rattle.std.proofs.Common.{◌∙◌, Some, [], ap, sym, nat_eq, arith, below_more}
 use Rattle.std.specs.Option.{option_eq}
 use Rattle.dts_tree.specs.TreeValues.{has_phandle}
 use Rattle.dts_tree.proofs.TreeLookLemmas.{position_at, position_none}
