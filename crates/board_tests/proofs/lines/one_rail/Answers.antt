@@ -1,9 +1,9 @@
-use Rattle.std.proofs.Common.{[], sym, subst, ◌∙◌, refl}
+use Rattle.std.proofs.Common.{[], sym, subst, ◌∙◌}
 use Rattle.std.specs.Prelude.{All}
 use Rattle.std.proofs.lemmas.List.Elements.{All-nil, All-cons}
 use Rattle.board.specs.declared.rail.Rail.{Rail}
 use Rattle.board.specs.Rail.{uv, IsAllowed}
-use Rattle.public_calls.proofs.lines.one_rail.Goals as goal
+use Rattle.board_tests.proofs.lines.one_rail.Goals as goal
 
 pub lone_is_valid-requires : goal.lone_is_valid-requires
 lone_is_valid-requires g c =
@@ -18,8 +18,8 @@ lone_is_valid-requires g c =
       group = core.lone.1;
       steps = core.lone.2;
       spread = c.in_ok-list_of-2.ensures;
-      graph = rw (c.in_ok-list_of-3.ensures, c.in_ok-list_of-4.ensures, c.in_ok-list_of-5.ensures) refl;
-      order = c.in_ok-list_of-6.ensures;
+      graph = c.in_ok-lone_graph.ensures;
+      order = c.in_ok-list_of-3.ensures;
     }
 
 pub returns-clause-lawful : goal.returns-clause-lawful

@@ -13,7 +13,7 @@ use Rattle.board.specs.declared.part.Part.{Part}
 use Rattle.board.specs.declared.part.Part.TheVariants.{Selector, Enable, ModePart, SuspendEnable, SuspendSelector}
 use Rattle.board.specs.Rail.{part_field}
 use Rattle.board.specs.Valid.{IsPlaced}
-use Rattle.public_calls.proofs.rails.core.Goals as goal
+use Rattle.board_tests.proofs.rails.core.Goals as goal
 
 abbrev ranges : List LinearRange
 ranges = record { min = 600000; min_sel = 0; max_sel = 127; step = 6250 } ∷ []

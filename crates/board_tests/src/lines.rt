@@ -4,11 +4,13 @@ ghost use Rattle.chip_regs.specs.declared.field.Field.{Field};
 ghost use Rattle.board.specs.Rail.{uv, IsAllowed, part_field};
 ghost use Rattle.board.specs.declared.part.Part.{Part};
 ghost use Rattle.board.specs.declared.part.Part.TheVariants.{Enable};
+ghost use Rattle.board.specs.Lone.{lone_graph};
 ghost use Rattle.board.specs.Valid.{IsValid, IsSoundRail, IsPrinted};
 ghost use Rattle.plain_board.specs.Inv.{Inv};
 ghost use Rattle.plain_board.specs.History.{NamesRail};
 ghost use Rattle.plain_board.specs.Text.{HasRails};
 
+use crate::same::assert_same;
 use bitflags::Flags;
 use board::laws::lone_is_valid;
 use board::{Board, Constraints, Desc, Handle, Name, Rail, RailId, Table};
@@ -80,6 +82,19 @@ fn list_of<T: Drop>(alloc: Global, item: T) -> Result<Items<T>, AllocError>
     Ok(items)
 }
 
+fn lone_graph(alloc: Global) -> Result<Graph, AllocError>
+    ensures { IfOk result (λ graph. graph ≡ lone_graph) }
+{
+    let supply = list_of(alloc, None)?;
+    let group = list_of(alloc, 0)?;
+    let link = list_of(alloc, false)?;
+    Ok(Graph {
+        supply,
+        group,
+        link,
+    })
+}
+
 /// A board whose one rail is `core`.
 fn one_rail(rt: &impl Abort, alloc: Global) -> Result<Board, Fail>
     ensures valid { IfOk result IsValid }
@@ -91,12 +106,8 @@ fn one_rail(rt: &impl Abort, alloc: Global) -> Result<Board, Fail>
         rails: list_of(alloc, core(rt)?)?,
         spread: list_of(alloc, 0)?,
         chips: 1,
-        graph: Graph {
-            supply: list_of(alloc, None)?,
-            group: list_of(alloc, 0)?,
-            link: list_of(alloc, false)?,
-        },
         order: list_of(alloc, 0)?,
+        graph: lone_graph(alloc)?,
     };
     lone_is_valid(&board);
     Ok(board)
@@ -137,14 +148,15 @@ fn fault(reg: u8, applied: u32, now: Vec<(RailId, u32)>) -> Answer
     }
 }
 
-/// Appends the text of a call and its answer as the line 2 of worker 1.
-fn print(
+/// The line that is printed of a call and its answer, as the line 2 of worker 1.
+fn assert_line(
+    rt: &impl Abort,
     alloc: Global,
     board: &Board,
-    out: &mut Vec<u8>,
     call: Call,
     answer: Answer,
-) -> Result<(), Fail>
+    line: &str,
+) -> Result<(), AllocError>
     requires call { NamesRail board.now call }
     requires answer { HasRails board.now answer }
 {
@@ -155,7 +167,9 @@ fn print(
         answer,
         writes: Items::new(alloc),
     };
-    row.text(alloc, board, out)?;
+    let mut text = Vec::new(alloc);
+    row.text(alloc, board, &mut text)?;
+    assert_same(rt, "line", text.as_slice(), line.as_bytes());
     Ok(())
 }
 
@@ -163,112 +177,164 @@ fn print(
 fn one_handle(
     alloc: Global,
     board: &Board,
+    handle: Handle,
     byte: u8,
     held: bool,
     enables: u32,
-) -> Result<Plain, Fail>
+) -> Result<Plain, AllocError>
     requires chips { board.now.chips ≡ 1 }
     requires rails { length board.now.rails ≡ 1 }
     requires lawful { (regs : List (List ℕ)) → All (λ rail. IsAllowed rail (uv rail regs)) board.now.rails }
     ensures inv { IfOk result (Inv board.now) }
     ensures few { IfOk result (λ plain. length plain.handles < 2 ^ 32) }
 {
-    let mut regs = Regs::new(alloc, 1)?;
-    regs.set_byte(0, 0x20, byte);
     let row = HandleRow {
         worker: 1,
-        handle: Handle::from("a")?,
+        handle,
         enables,
         request: None,
         load: 0,
         cursor: None,
         exclusive: false,
     };
-    let mut handles = Items::new(alloc);
-    handles.push((RailId(0), row))?;
-    let mut holds = Items::new(alloc);
-    holds.push(held)?;
-    let mut events = Items::new(alloc);
-    events.push(Items::new(alloc))?;
+    let mut regs = Regs::new(alloc, 1)?;
+    regs.set_byte(0, 0x20, byte);
     Ok(Plain {
         regs,
-        handles,
-        holds,
+        handles: list_of(alloc, (RailId(0), row))?,
+        holds: list_of(alloc, held)?,
         suspended: false,
-        events,
+        events: list_of(alloc, Items::new(alloc))?,
     })
 }
 
 #[test]
-fn rows(rt: HostRuntime) -> Result<(), Fail> {
-    let alloc = rt.alloc();
-    let board = one_rail(&rt, alloc)?;
+fn lines_of_a_board(rt: HostRuntime) -> Result<(), Fail> {
+    let board = one_rail(&rt, rt.alloc())?;
+    assert_lines(&rt, rt.alloc(), &board)
+}
+
+fn assert_lines(rt: &impl Abort, alloc: Global, board: &Board) -> Result<(), Fail>
+    requires valid { IsValid board.now }
+    requires chips { board.now.chips ≡ 1 }
+    requires rails { length board.now.rails ≡ 1 }
+    requires lawful { (regs : List (List ℕ)) → All (λ rail. IsAllowed rail (uv rail regs)) board.now.rails }
+{
     let a = Handle::from("a")?;
-    let moved = Answer::OkSet {
-        uv: 906250,
-        delay: 9,
-    };
-    let reversed = Answer::BadRange {
-        lo: 900000,
-        hi: 899999,
-    };
-    let none = Vec::new(alloc);
-    let one = vec![in alloc; (RailId(0), 806250)]?;
-    let mut text = Vec::new(alloc);
-    let out = &mut text;
-    print(alloc, &board, out, open(a, false), Answer::Ok)?;
-    print(alloc, &board, out, open(a, true), Answer::Ok)?;
-    print(alloc, &board, out, set(a, 900001, 950000), moved)?;
-    print(alloc, &board, out, get(a), Answer::OkUv { uv: 906250 })?;
-    print(alloc, &board, out, set(a, 900000, 899999), reversed)?;
-    print(alloc, &board, out, set(a, 0, 4294967295), Answer::NoValue)?;
-    print(alloc, &board, out, get(a), Answer::NoHandle)?;
-    print(alloc, &board, out, set(a, 7, 8), fault(0x20, 0, none))?;
-    print(alloc, &board, out, set(a, 7, 8), fault(0x0f, 1, one))?;
-    let lines = "\
-        1 2 open a core -> ok\n\
-        1 2 openx a core -> ok\n\
-        1 2 set a 900001 950000 -> ok 906250 9\n\
-        1 2 get a -> ok 906250\n\
-        1 2 set a 900000 899999 -> badrange 900000 899999\n\
-        1 2 set a 0 4294967295 -> novalue\n\
-        1 2 get a -> nohandle\n\
-        1 2 set a 7 8 -> fault 0 0x20 0\n\
-        1 2 set a 7 8 -> fault 0 0x0f 1 core 806250\n";
-    assert_eq!(rt; text.as_slice(), lines.as_bytes());
+    assert_answers(rt, alloc, board, a)?;
+    assert_faults(rt, alloc, board, set(a, 7, 8))?;
+    for row in SUMMARIES {
+        assert_summary(rt, alloc, board, a, row)?;
+    }
     Ok(())
 }
 
-#[test]
-fn summaries(rt: HostRuntime) -> Result<(), Fail> {
-    let alloc = rt.alloc();
-    let board = one_rail(&rt, alloc)?;
-    // the enable register, whether the rail is held, the enables of its handle, the rail's line
-    let cases = [
-        (
-            0x00,
-            false,
-            0,
-            "rail core off 800000 normal use 0 enables 0\ndone 1 24\n",
-        ),
-        (
-            0x01,
-            true,
-            0,
-            "rail core on 800000 normal use 1 enables 0\ndone 1 24\n",
-        ),
-        (
-            0x01,
-            true,
-            1,
-            "rail core on 800000 normal use 2 enables 1\ndone 1 24\n",
-        ),
-    ];
-    for (byte, held, enables, text) in cases {
-        let plain = one_handle(alloc, &board, byte, held, enables)?;
-        let mut out = Vec::new(alloc);
-        summary(alloc, &board, &plain, 1, 24, &mut out)?;
-        assert_eq!(rt; out.as_slice(), text.as_bytes());
-    }
+fn assert_answers(
+    rt: &impl Abort,
+    alloc: Global,
+    board: &Board,
+    a: Handle,
+) -> Result<(), AllocError>
+    requires { length board.now.rails ≡ 1 }
+{
+    let line = "1 2 open a core -> ok\n";
+    assert_line(rt, alloc, board, open(a, false), Answer::Ok, line)?;
+    let line = "1 2 openx a core -> ok\n";
+    assert_line(rt, alloc, board, open(a, true), Answer::Ok, line)?;
+    let line = "1 2 set a 900001 950000 -> ok 906250 9\n";
+    let answer = Answer::OkSet {
+        uv: 906250,
+        delay: 9,
+    };
+    assert_line(rt, alloc, board, set(a, 900001, 950000), answer, line)?;
+    let line = "1 2 get a -> ok 906250\n";
+    assert_line(rt, alloc, board, get(a), Answer::OkUv { uv: 906250 }, line)?;
+    let line = "1 2 set a 900000 899999 -> badrange 900000 899999\n";
+    let answer = Answer::BadRange {
+        lo: 900000,
+        hi: 899999,
+    };
+    assert_line(rt, alloc, board, set(a, 900000, 899999), answer, line)?;
+    let line = "1 2 set a 0 4294967295 -> novalue\n";
+    let call = set(a, 0, 4294967295);
+    assert_line(rt, alloc, board, call, Answer::NoValue, line)?;
+    let line = "1 2 get a -> nohandle\n";
+    assert_line(rt, alloc, board, get(a), Answer::NoHandle, line)
+}
+
+/// The call is `set a 7 8`.
+fn assert_faults(
+    rt: &impl Abort,
+    alloc: Global,
+    board: &Board,
+    call: Call,
+) -> Result<(), AllocError>
+    requires rails { length board.now.rails ≡ 1 }
+    requires call { NamesRail board.now call }
+{
+    let line = "1 2 set a 7 8 -> fault 0 0x20 0\n";
+    let none = fault(0x20, 0, Vec::new(alloc));
+    assert_line(rt, alloc, board, call, none, line)?;
+    let line = "1 2 set a 7 8 -> fault 0 0x0f 1 core 806250\n";
+    let one = fault(0x0f, 1, vec![in alloc; (RailId(0), 806250)]?);
+    assert_line(rt, alloc, board, call, one, line)
+}
+
+/// The enable register, whether the rail is held, the enables of its handle, the summary.
+type Summary = (u8, bool, u32, &'static str);
+
+const SUMMARIES: &[Summary] = &[
+    (
+        0x00,
+        false,
+        0,
+        "rail core off 800000 normal use 0 enables 0\ndone 1 24\n",
+    ),
+    (
+        0x01,
+        true,
+        0,
+        "rail core on 800000 normal use 1 enables 0\ndone 1 24\n",
+    ),
+    (
+        0x01,
+        true,
+        1,
+        "rail core on 800000 normal use 2 enables 1\ndone 1 24\n",
+    ),
+];
+
+/// What is printed of the board after a worker with 24 rows.
+fn assert_summary(
+    rt: &impl Abort,
+    alloc: Global,
+    board: &Board,
+    a: Handle,
+    row: &Summary,
+) -> Result<(), AllocError>
+    requires valid { IsValid board.now }
+    requires chips { board.now.chips ≡ 1 }
+    requires rails { length board.now.rails ≡ 1 }
+    requires lawful { (regs : List (List ℕ)) → All (λ rail. IsAllowed rail (uv rail regs)) board.now.rails }
+{
+    let (byte, held, enables, text) = *row;
+    let plain = one_handle(alloc, board, a, byte, held, enables)?;
+    assert_printed(rt, alloc, board, &plain, text)
+}
+
+fn assert_printed(
+    rt: &impl Abort,
+    alloc: Global,
+    board: &Board,
+    plain: &Plain,
+    text: &str,
+) -> Result<(), AllocError>
+    requires valid { IsValid board.now }
+    requires inv { Inv board.now plain.now }
+    requires few { length plain.now.handles < 2 ^ 32 }
+{
+    let mut out = Vec::new(alloc);
+    summary(alloc, board, plain, 1, 24, &mut out)?;
+    assert_same(rt, "summary", out.as_slice(), text.as_bytes());
     Ok(())
 }

@@ -1,0 +1,148 @@
+ghost use Rattle.std.specs.Prelude.{◌≡◌, ◌≤◌, length};
+ghost use Rattle.dts_lex.specs.Lex.{lexed};
+
+use crate::node::{write_node, write_values};
+use dts_lex::{Kind, LexFault, Token, is_last, lex};
+use dts_tree::{Tree, TreeFault, parse};
+use std::alloc::{AllocError, Global};
+
+/// What a row asks of its text.
+#[derive(Clone, Copy)]
+pub(crate) enum Asked {
+    /// Its tokens.
+    Tokens,
+    /// The nodes of its tree.
+    Tree,
+    /// The values of a property of its root.
+    Values,
+    /// How long each beginning of it is that has a tree.
+    Prefixes,
+}
+
+/// Appends what is found in a text, or its first fault.
+pub(crate) fn write_found(
+    alloc: Global,
+    line: &mut String,
+    asked: Asked,
+    text: &[u8],
+    property: &str,
+) -> Result<(), AllocError> {
+    if text.len() > 4_294_967_295 {
+        return line.push_str("toolong");
+    }
+    if let Asked::Prefixes = asked {
+        return write_prefixes(alloc, line, text);
+    }
+    match lex(alloc, text) {
+        Ok(tokens) => match asked {
+            Asked::Tokens => write_tokens(line, text, tokens.as_slice()),
+            Asked::Tree | Asked::Prefixes => write_parsed(
+                alloc,
+                line,
+                text,
+                tokens.as_slice(),
+                None,
+            ),
+            Asked::Values => write_parsed(alloc, line, text, tokens.as_slice(), Some(property)),
+        },
+        Err(fault) => write_lex_fault(line, fault),
+    }
+}
+
+fn write_prefixes(alloc: Global, line: &mut String, text: &[u8]) -> Result<(), AllocError>
+    requires { length text.now ≤ 4294967295 }
+{
+    for length in 0..text.len() + 1 {
+        if is_tree(alloc, &text[..length]) {
+            write!(line, "{length} ")?;
+        }
+    }
+    Ok(())
+}
+
+fn is_tree(alloc: Global, text: &[u8]) -> bool
+    requires { length text.now ≤ 4294967295 }
+{
+    match lex(alloc, text) {
+        Ok(tokens) => parse(alloc, text, tokens.as_slice()).is_ok(),
+        Err(_) => false,
+    }
+}
+
+/// Each token as its kind's letter and its places, with a mark where nothing is looked at behind it.
+fn write_tokens(line: &mut String, text: &[u8], tokens: &[Token]) -> Result<(), AllocError> {
+    for t in tokens {
+        let kind = letter_of(t.kind);
+        let start = t.start;
+        let end = t.end;
+        let inside = start <= end && end as usize <= text.len();
+        let mark = if inside && is_last(text, t) { "!" } else { "" };
+        write!(line, "{kind}{start}-{end}{mark} ")?;
+    }
+    Ok(())
+}
+
+fn letter_of(kind: Kind) -> char {
+    match kind {
+        Kind::Word => 'w',
+        Kind::Number => 'n',
+        Kind::Text => 't',
+        Kind::Directive => 'd',
+        Kind::Ref => 'r',
+        Kind::Sign => 's',
+    }
+}
+
+fn write_lex_fault(line: &mut String, fault: LexFault) -> Result<(), AllocError> {
+    match fault {
+        LexFault::BadChar(at) => write!(line, "badchar {at}"),
+        LexFault::Unclosed(at) => write!(line, "unclosed {at}"),
+        LexFault::NumberTooWide(at) => write!(line, "wide {at}"),
+        LexFault::Memory => write!(line, "memory"),
+    }
+}
+
+/// Appends the values of the root's property that is asked for, or else each node, of the tree of a text.
+fn write_parsed(
+    alloc: Global,
+    line: &mut String,
+    text: &[u8],
+    tokens: &[Token],
+    property: Option<&str>,
+) -> Result<(), AllocError>
+    requires short { length text.now ≤ 4294967295 }
+    requires lexed { lexed text.now ≡ Ok tokens.now }
+{
+    match parse(alloc, text, tokens) {
+        Ok(tree) => write_tree(alloc, line, &tree, property),
+        Err(fault) => write_tree_fault(line, fault),
+    }
+}
+
+fn write_tree(
+    alloc: Global,
+    line: &mut String,
+    tree: &Tree,
+    property: Option<&str>,
+) -> Result<(), AllocError> {
+    match property {
+        Some(property) => write_values(alloc, line, tree, property.as_bytes()),
+        None => {
+            for node in 0..tree.count() {
+                write_node(line, tree, node)?;
+            }
+            Ok(())
+        }
+    }
+}
+
+fn write_tree_fault(line: &mut String, fault: TreeFault) -> Result<(), AllocError> {
+    match fault {
+        TreeFault::Syntax(at) => write!(line, "syntax {at}"),
+        TreeFault::NoLabel(at) => write!(line, "nolabel {at}"),
+        TreeFault::TwoLabels(at) => write!(line, "twolabels {at}"),
+        TreeFault::NotSupported { at, end } => write!(line, "notsupported {at} {end}"),
+        TreeFault::TooDeep(at) => write!(line, "toodeep {at}"),
+        TreeFault::Memory => write!(line, "memory"),
+    }
+}

@@ -1,0 +1,90 @@
+ghost use Rattle.std.specs.Prelude.{◌<◌, length};
+
+use dts_tree::{Cell, Tree};
+use std::alloc::{AllocError, Global};
+
+/// Appends a node as its name, its place and its parent.
+pub(crate) fn write_node(line: &mut String, tree: &Tree, node: u32) -> Result<(), AllocError>
+    requires { node < length tree.now.nodes }
+{
+    push_bytes(line, tree.name(node))?;
+    let at = tree.at(node);
+    match tree.parent(node) {
+        Some(parent) => write!(line, "@{at}^{parent} "),
+        None => write!(line, "@{at}^- "),
+    }
+}
+
+/// Appends how many properties there are, whether the root has this one, and its cells and its strings.
+pub(crate) fn write_values(
+    alloc: Global,
+    line: &mut String,
+    tree: &Tree,
+    property: &[u8],
+) -> Result<(), AllocError> {
+    if tree.count() == 0 {
+        return Ok(());
+    }
+    let properties = tree.property_count();
+    let has = if tree.has(0, property) { "has " } else { "" };
+    write!(line, "{properties} {has}")?;
+    write_cells(alloc, line, tree, property)?;
+    write_strings(alloc, line, tree, property)
+}
+
+fn write_cells(
+    alloc: Global,
+    line: &mut String,
+    tree: &Tree,
+    property: &[u8],
+) -> Result<(), AllocError>
+    requires { 0 < length tree.now.nodes }
+{
+    match tree.cells(alloc, 0, property)? {
+        Some(cells) => {
+            for cell in &cells {
+                write_cell(line, tree, cell)?;
+            }
+            Ok(())
+        }
+        None => line.push_str("- "),
+    }
+}
+
+fn write_cell(line: &mut String, tree: &Tree, cell: &Cell) -> Result<(), AllocError> {
+    match *cell {
+        Cell::Num(n) => write!(line, "{n}")?,
+        Cell::Node(node) => write!(line, "&{node}")?,
+    }
+    match tree.target(cell) {
+        Some(node) => write!(line, ">{node} "),
+        None => line.push_str(" "),
+    }
+}
+
+fn write_strings(
+    alloc: Global,
+    line: &mut String,
+    tree: &Tree,
+    property: &[u8],
+) -> Result<(), AllocError>
+    requires { 0 < length tree.now.nodes }
+{
+    match tree.strings(alloc, 0, property)? {
+        Some(strings) => {
+            for string in &strings {
+                push_bytes(line, string.as_slice())?;
+                line.push_str("|")?;
+            }
+            Ok(())
+        }
+        None => line.push_str("-"),
+    }
+}
+
+fn push_bytes(line: &mut String, bytes: &[u8]) -> Result<(), AllocError> {
+    for b in bytes {
+        line.push(*b as char)?;
+    }
+    Ok(())
+}

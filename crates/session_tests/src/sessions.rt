@@ -1,0 +1,404 @@
+//! Whole sessions through `front`, with text that was worked out by hand. In the text of a session `|` ends a
+//! line.
+use crate::same::assert_same;
+use reg_outside::{Lab, MemLab, MemSink, MemSource, NullLab, Source};
+use regulator_main::{Status, code, front, one_reading};
+use std::alloc::{AllocError, Global};
+use std::process::Abort;
+
+const DEMO: &str = "%session 1|%board demo|";
+
+/// The words of a command.
+fn words_of(alloc: Global, text: &str) -> Result<Vec<String>, AllocError> {
+    let mut words = Vec::new(alloc);
+    for word in text.split_whitespace() {
+        words.push(String::from_str(alloc, word)?)?;
+    }
+    Ok(words)
+}
+
+fn push_lines(text: &mut String, lines: &str) -> Result<(), AllocError> {
+    for c in lines.chars() {
+        text.push(if c == '|' { '\n' } else { c })?;
+    }
+    Ok(())
+}
+
+/// The text of a session by its beginning and the lines after it.
+fn text_of(alloc: Global, head: &str, lines: &str) -> Result<String, AllocError> {
+    let mut text = String::new(alloc);
+    push_lines(&mut text, head)?;
+    push_lines(&mut text, lines)?;
+    Ok(text)
+}
+
+/// The text of a session by its beginning, one line so many times, and its end.
+fn long_text(
+    alloc: Global,
+    head: &str,
+    line: &str,
+    count: u32,
+    end: &str,
+) -> Result<String, AllocError> {
+    let mut text = text_of(alloc, head, "")?;
+    for _ in 0..count {
+        push_lines(&mut text, line)?;
+    }
+    push_lines(&mut text, end)?;
+    Ok(text)
+}
+
+/// How a command of these words ends.
+fn said<L: Lab>(
+    alloc: Global,
+    words: &str,
+    source: &mut MemSource,
+    sink: &mut MemSink,
+    lab: &mut L,
+) -> Result<Status, AllocError> {
+    let words = words_of(alloc, words)?;
+    Ok(front(alloc, words.as_slice(), source, sink, lab))
+}
+
+/// How a session ended, and what was written.
+#[derive(Drop)]
+struct Ended {
+    status: Status,
+    written: Vec<u8>,
+}
+
+/// Runs a session.
+fn solo<L: Lab>(alloc: Global, text: &str, lab: &mut L) -> Result<Ended, AllocError> {
+    let mut source = MemSource::new(text.as_bytes().to_vec(alloc)?, Vec::new(alloc));
+    solo_of(alloc, &mut source, lab)
+}
+
+fn solo_of<L: Lab>(
+    alloc: Global,
+    source: &mut MemSource,
+    lab: &mut L,
+) -> Result<Ended, AllocError> {
+    let mut sink = MemSink::new(alloc, 1_000_000, Vec::new(alloc))?;
+    let status = said(alloc, "solo", source, &mut sink, lab)?;
+    let written = sink.bytes().to_vec(alloc)?;
+    Ok(Ended { status, written })
+}
+
+/// A session is refused for its first fault, which is told as its line and its kind.
+fn assert_refused(
+    rt: &impl Abort,
+    alloc: Global,
+    text: &str,
+    fault: &str,
+) -> Result<(), AllocError> {
+    let ended = solo(alloc, text, &mut NullLab)?;
+    assert_same(rt, text, code(&ended.status), 5);
+    assert_refusal(rt, alloc, text, ended.written.as_slice(), fault)
+}
+
+fn assert_refusal(
+    rt: &impl Abort,
+    alloc: Global,
+    text: &str,
+    written: &[u8],
+    fault: &str,
+) -> Result<(), AllocError> {
+    let refusal = format!(in alloc; "refused {fault}\n")?;
+    assert_same(rt, text, written, refusal.as_bytes());
+    Ok(())
+}
+
+fn assert_each_refused(
+    rt: &impl Abort,
+    alloc: Global,
+    head: &str,
+    rows: &str,
+) -> Result<(), AllocError> {
+    for row in rows.lines() {
+        assert_row_refused(rt, alloc, head, row)?;
+    }
+    Ok(())
+}
+
+fn assert_row_refused(
+    rt: &impl Abort,
+    alloc: Global,
+    head: &str,
+    row: &str,
+) -> Result<(), AllocError> {
+    let (fault, lines) = row.split_once(": ").expect(rt, "a row");
+    let text = text_of(alloc, head, lines)?;
+    assert_refused(rt, alloc, text.as_str(), fault)
+}
+
+/// The line and the kind of the first fault of a text, and the text.
+const HEADS: &str = "\
+    1 badsession: \n\
+    1 badsession: %session 1\n\
+    1 badsession: %session 2|\n\
+    2 badsession: %session 1|\n\
+    2 notyet: %session 1|%board dts|\n\
+    2 badsession: %session 1|%board dts\n\
+    2 badsession: %session 1|%board dtb|\n";
+
+/// The same of texts that begin with the demo board.
+const AFTER_BOARD: &str = "\
+    3 badsession: \n\
+    3 notyet: %reg 0 0x20 0x01|\n\
+    3 notyet: %reg 4294967295 0xff 0x00|\n\
+    3 badsession: %reg 4294967296 0xff 0x00|\n\
+    3 badsession: %reg 0 0x2 0x01|\n\
+    3 badsession: %reg 0 0x20 0x0A|\n\
+    3 badsession: %reg 00 0x20 0x01|\n\
+    3 badsession: %reg 0  0x20 0x01|\n\
+    3 notyet: %fault 16 1|\n\
+    3 badsession: %fault 17 1|\n\
+    3 badsession: %fault 0 0|\n\
+    3 badsession: %fault 0 1 |\n\
+    3 badsession: |\n\
+    3 badsession: %end|\n\
+    3 badsession: %worker\n\
+    3 badsession: %done\n\
+    4 badsession: %done||\n\
+    4 badsession: %done|%done|\n\
+    4 badsession: %done|%done\n";
+
+/// The same of texts that begin with the demo board and a worker.
+const IN_WORKER: &str = "\
+    4 badsession: \n\
+    4 badsession: open a core\n\
+    4 notyet: |\n\
+    4 notyet: get a|\n\
+    4 notyet: openx a core|\n\
+    4 notyet: open a vdd|\n\
+    4 notyet: open 1a core|\n\
+    4 notyet: open  core|\n\
+    4 notyet: open abcdefghij_123456 core|\n\
+    5 badsession: open abcdefghij_12345 core|\n\
+    5 notyet: open a core|open a core|\n\
+    5 notyet: open a core|get b|\n\
+    5 notyet: open a core|get ab|\n\
+    5 notyet: open a core|set b 1 2|\n\
+    5 notyet: open a core|set a 01 2|\n\
+    5 notyet: open a core|set a +1 2|\n\
+    5 notyet: open a core|set a 1|\n\
+    5 notyet: open a core|set a 4294967296 1|\n\
+    6 badsession: open a core|set a 4294967295 0|\n\
+    5 notyet: open a core|enable a|\n\
+    5 badsession: open a core|enable a\n\
+    5 badsession: %end|\n\
+    5 notyet: %end|%worker|\n\
+    5 badsession: %end|%worker\n\
+    5 badsession: %end|%end|\n\
+    5 badsession: %end|%reg 0 0x20 0x01|\n\
+    7 badsession: open a core|%end|%done|%done|\n\
+    7 badsession: open a core|%end|%done|x\n";
+
+#[test]
+fn first_faults(rt: HostRuntime) -> Result<(), AllocError> {
+    assert_each_refused(&rt, rt.alloc(), "", HEADS)?;
+    assert_each_refused(&rt, rt.alloc(), DEMO, AFTER_BOARD)?;
+    let head = "%session 1|%board demo|%worker|";
+    assert_each_refused(&rt, rt.alloc(), head, IN_WORKER)
+}
+
+/// A text that is as long as it may be, and a longer one.
+#[test]
+fn longest_text(rt: HostRuntime) -> Result<(), AllocError> {
+    assert_long_refused(&rt, rt.alloc(), 4_194_304, "1 badsession")?;
+    assert_long_refused(&rt, rt.alloc(), 4_194_305, "0 toolong")
+}
+
+/// A text of so many bytes that is no session is refused like this.
+fn assert_long_refused(
+    rt: &impl Abort,
+    alloc: Global,
+    bytes: u32,
+    fault: &str,
+) -> Result<(), AllocError> {
+    let text = long_text(alloc, "", "%", bytes, "")?;
+    assert_refused(rt, alloc, text.as_str(), fault)
+}
+
+/// A worker that opens `a`.
+const OPENED: &str = "%session 1|%board demo|%worker|open a core|";
+
+/// A worker with more call lines than it may have.
+#[test]
+fn too_many_lines(rt: HostRuntime) -> Result<(), AllocError> {
+    let text = long_text(rt.alloc(), OPENED, "get a|", 4096, "")?;
+    assert_refused(&rt, rt.alloc(), text.as_str(), "4100 toomanylines")
+}
+
+/// A worker whose last call line may be of another form, and is one too many.
+#[test]
+fn another_form_is_too_many(rt: HostRuntime) -> Result<(), AllocError> {
+    let text = long_text(rt.alloc(), OPENED, "get a|", 4095, "ison a|")?;
+    assert_refused(&rt, rt.alloc(), text.as_str(), "4100 notyet")
+}
+
+/// A worker with as many call lines as it may have.
+#[test]
+fn most_lines(rt: HostRuntime) -> Result<(), AllocError> {
+    let last = "set a 800000 4294967295|%end|%done|";
+    let text = long_text(rt.alloc(), OPENED, "get a|", 4094, last)?;
+    let ended = solo(rt.alloc(), text.as_str(), &mut NullLab)?;
+    let end = "1 4096 set a 800000 4294967295 -> ok 800000 0\n\
+        rail core off 800000 normal use 0 enables 0\n\
+        done 1 4096\n";
+    assert_same(&rt, "status", ended.status, Status::Done);
+    assert!(rt; ended.written.as_slice().ends_with(end.as_bytes()));
+    Ok(())
+}
+
+/// A session on the demo board is run, and this is printed of it.
+fn assert_played<L: Lab>(
+    rt: &impl Abort,
+    alloc: Global,
+    lab: &mut L,
+    lines: &str,
+    printed: &str,
+) -> Result<(), AllocError> {
+    let text = text_of(alloc, DEMO, lines)?;
+    let ended = solo(alloc, text.as_str(), lab)?;
+    assert_same(rt, lines, ended.status, Status::Done);
+    assert_same(rt, lines, ended.written.as_slice(), printed.as_bytes());
+    Ok(())
+}
+
+/// A session's lines after its board, with what is printed of it.
+const HISTORIES: &[(&str, &str)] = &[
+    (
+        "%done|",
+        "rail core off 800000 normal use 0 enables 0\n\
+        done 0 0\n",
+    ),
+    (
+        "%worker|%end|%done|",
+        "rail core off 800000 normal use 0 enables 0\n\
+        done 1 0\n",
+    ),
+    (
+        "%worker|open a core|set a 900001 950000|get a|%end|%done|",
+        "1 1 open a core -> ok\n\
+        1 2 set a 900001 950000 -> ok 906250 9\n\
+        1 3 get a -> ok 906250\n\
+        rail core off 906250 normal use 0 enables 0\n\
+        done 1 3\n",
+    ),
+    (
+        "%worker|open a core|set a 900001 906249|set a 906250 906250|%end|%done|",
+        "1 1 open a core -> ok\n\
+        1 2 set a 900001 906249 -> novalue\n\
+        1 3 set a 906250 906250 -> ok 906250 9\n\
+        rail core off 906250 normal use 0 enables 0\n\
+        done 1 3\n",
+    ),
+    (
+        "%worker|open a core|set a 900000 899999|%end|%done|",
+        "1 1 open a core -> ok\n\
+        1 2 set a 900000 899999 -> badrange 900000 899999\n\
+        rail core off 800000 normal use 0 enables 0\n\
+        done 1 2\n",
+    ),
+    (
+        "%worker|open a core|set a 990000 2000000|%end|%done|",
+        "1 1 open a core -> ok\n\
+        1 2 set a 990000 2000000 -> ok 993750 16\n\
+        rail core off 993750 normal use 0 enables 0\n\
+        done 1 2\n",
+    ),
+    (
+        "%worker|open a core|set a 1000001 1100000|set a 1000000 4294967295|%end|%done|",
+        "1 1 open a core -> ok\n\
+        1 2 set a 1000001 1100000 -> novalue\n\
+        1 3 set a 1000000 4294967295 -> ok 1000000 16\n\
+        rail core off 1000000 normal use 0 enables 0\n\
+        done 1 3\n",
+    ),
+];
+
+#[test]
+fn histories(rt: HostRuntime) -> Result<(), AllocError> {
+    for &(lines, printed) in HISTORIES {
+        assert_played(&rt, rt.alloc(), &mut NullLab, lines, printed)?;
+    }
+    Ok(())
+}
+
+/// With room for one update the second is refused: the rail stands where the first brought it.
+#[test]
+fn the_wire_refuses(rt: HostRuntime) -> Result<(), AllocError> {
+    let lines = "%worker|open a core|set a 900001 950000|set a 800000 800000|get a|%end|%done|";
+    let printed = "\
+        1 1 open a core -> ok\n\
+        1 2 set a 900001 950000 -> fault 0 0x10 1 core 806250\n\
+        1 3 set a 800000 800000 -> fault 0 0x10 0\n\
+        1 4 get a -> ok 806250\n\
+        rail core off 806250 normal use 0 enables 0\n\
+        done 1 4\n";
+    let mut lab = MemLab::new(rt.alloc(), 1, 1)?;
+    assert_played(&rt, rt.alloc(), &mut lab, lines, printed)?;
+    assert_same(&rt, "the load", lab.list(0).len(), 0);
+    let taken = [(0, 0x10, 0x7f, 33)];
+    assert_same(&rt, "the worker", lab.list(1), taken.as_slice());
+    Ok(())
+}
+
+/// A session with a worker that makes no call.
+fn idle(alloc: Global, fail: Vec<u32>) -> Result<MemSource, AllocError> {
+    let text = b"%session 1\n%board demo\n%worker\n%end\n%done\n";
+    Ok(MemSource::new(text.to_vec(alloc)?, fail))
+}
+
+/// A command of these words ends like this, and this is written where five bytes have room.
+fn assert_ended(
+    rt: &impl Abort,
+    alloc: Global,
+    words: &str,
+    source: &mut MemSource,
+    status: Status,
+    written: &str,
+) -> Result<(), AllocError> {
+    let mut sink = MemSink::new(alloc, 5, Vec::new(alloc))?;
+    let found = said(alloc, words, source, &mut sink, &mut NullLab)?;
+    assert_same(rt, words, found, status);
+    assert_same(rt, words, sink.bytes(), written.as_bytes());
+    Ok(())
+}
+
+#[test]
+fn other_words(rt: HostRuntime) -> Result<(), AllocError> {
+    for words in ["", "x", "solo x"] {
+        assert_untouched(&rt, rt.alloc(), words)?;
+    }
+    Ok(())
+}
+
+/// These words are no command, so nothing is read.
+fn assert_untouched(rt: &impl Abort, alloc: Global, words: &str) -> Result<(), AllocError> {
+    let mut source = idle(alloc, Vec::new(alloc))?;
+    assert_ended(rt, alloc, words, &mut source, Status::Words, "")?;
+    assert_same(rt, words, source.read(&mut [0]), Ok(1));
+    Ok(())
+}
+
+#[test]
+fn the_second_read_fails(rt: HostRuntime) -> Result<(), AllocError> {
+    let fail = vec![in rt.alloc(); 2]?;
+    let mut source = idle(rt.alloc(), fail)?;
+    let status = Status::ReadFault;
+    assert_ended(&rt, rt.alloc(), "solo", &mut source, status, "")
+}
+
+#[test]
+fn five_bytes_fit(rt: HostRuntime) -> Result<(), AllocError> {
+    let mut source = idle(rt.alloc(), Vec::new(rt.alloc()))?;
+    let status = Status::WriteFault { kept: 5 };
+    assert_ended(&rt, rt.alloc(), "solo", &mut source, status, "rail ")
+}
+
+#[test]
+fn laws_of_sessions() {
+    one_reading();
+}
