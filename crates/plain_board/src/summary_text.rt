@@ -1,7 +1,8 @@
-ghost use Rattle.std.specs.Prelude.{◌≡◌, ◌<◌, ◌^◌, ◌++◌, length, slice_get, codes, if◌then◌else◌, IfOk, OnOk, OnErr, string_bytes};
+ghost use Rattle.std.specs.Prelude.{◌≡◌, ◌<◌, ◌^◌, ◌++◌, ◌∷◌, [], length, slice_get, codes, decimal, flat_map, if◌then◌else◌, IfOk, OnOk, OnErr, string_bytes};
+ghost use Rattle.std.specs.List.{enumerate_from};
 ghost use Rattle.board.specs.Valid.{IsValid};
 ghost use Rattle.plain_board.specs.Inv.{Inv};
-ghost use Rattle.plain_board.specs.Text.{rail_text, summary_text};
+ghost use Rattle.plain_board.specs.Text.{ended, spaced, rail_text, summary_text};
 
 use crate::counts::{enables, use_count};
 use crate::plain::Plain;
@@ -38,6 +39,31 @@ fn rail_text(
     format!(in alloc; "{text}\n")
 }
 
+/// The lines of all rails, in their order.
+fn rails_text(alloc: Global, board: &Board, plain: &Plain) -> Result<String, AllocError>
+    requires valid { IsValid board.now }
+    requires inv { Inv board.now plain.now }
+    requires few { length plain.now.handles < 2 ^ 32 }
+    ensures { IfOk result (λ text. string_bytes text ≡ flat_map (rail_text board.now plain.now) (enumerate_from 0 board.now.rails)) }
+{
+    let mut text = String::new(alloc);
+    let mut id = 0;
+    for rail in board.rails.as_slice() {
+        let line = rail_text(alloc, board, plain, RailId(id), rail)?;
+        text.push_str(line.as_str())?;
+        id += 1;
+    }
+    Ok(text)
+}
+
+/// The last line.
+fn done_text(alloc: Global, workers: u16, rows: u32) -> Result<String, AllocError>
+    ensures { IfOk result (λ text. string_bytes text ≡ ended (spaced (codes "done" ∷ decimal workers ∷ decimal rows ∷ []))) }
+{
+    let done = format!(in alloc; "done {workers} {rows}")?;
+    format!(in alloc; "{done}\n")
+}
+
 /// Appends where each rail stands, with its counts, and how many workers and rows there were.
 /// On want of memory `out` is as before.
 pub fn summary(
@@ -54,15 +80,8 @@ pub fn summary(
     ensures ok { OnOk result (out.new.items ≡ out.old.items ++ summary_text board.now plain.now workers rows) }
     ensures err { OnErr result (out.new.items ≡ out.old.items) }
 {
-    let mut text = String::new(alloc);
-    let mut id = 0;
-    for rail in board.rails.as_slice() {
-        let line = rail_text(alloc, board, plain, RailId(id), rail)?;
-        text.push_str(line.as_str())?;
-        id += 1;
-    }
-    let done = format!(in alloc; "done {workers} {rows}")?;
-    let last = format!(in alloc; "{done}\n")?;
+    let mut text = rails_text(alloc, board, plain)?;
+    let last = done_text(alloc, workers, rows)?;
     text.push_str(last.as_str())?;
     out.extend_from_slice(text.as_bytes())
 }

@@ -1,6 +1,6 @@
 -- Rails whose selectors share no bit with the one that was written.
-use Rattle.std.proofs.Common.{◌≡◌, ◌≢◌, ℕ, inl, Bool, true, false, eqb, List, Option, Some, None, refl, sym, subst, ap, ◌∙◌, arith, length, get_or}
-use Rattle.std.specs.Prelude.{slice_get, All, IfSome, unwrap_or}
+use Rattle.std.proofs.Common.{◌≡◌, ◌≢◌, ℕ, inl, Bool, true, false, eqb, List, Option, Some, None, refl, sym, subst, ap, ◌∙◌, arith, get_or}
+use Rattle.std.specs.Prelude.{slice_get, IfSome, unwrap_or}
 use Rattle.std.specs.Option.{option_and_then}
 use Rattle.std.proofs.lemmas.Bool.Decides.{nat_tests}
 use Rattle.std.proofs.lemmas.Option.{slice_get-get_or}

@@ -1,8 +1,8 @@
 -- A set of a handle, from its parts.
-use Rattle.std.proofs.Common.{◌≡◌, ℕ, ◌<◌, Bool, true, false, cond, ◌||◌, zero, suc, leb, ltb, eqb, eq-eqb, List, [], ◌∷◌, Option, Some, None, refl, sym, subst, ap, ◌∙◌, arith, filter, length}
+use Rattle.std.proofs.Common.{◌≡◌, ℕ, ◌<◌, Bool, true, false, cond, ◌||◌, leb, ltb, eqb, eq-eqb, List, [], ◌∷◌, Option, Some, None, refl, sym, subst, ap, ◌∙◌, filter, length}
 use Rattle.std.specs.Prelude.{slice_get, position, All}
 use Rattle.std.specs.List.{list_all}
-use Rattle.std.proofs.lemmas.List.Elements.{All-nil, All-cons, All-set, filter_agree}
+use Rattle.std.proofs.lemmas.List.Elements.{All-set, filter_agree}
 use Rattle.reg_outside.specs.ToldFacts.{with_more-nil}
 use Rattle.arrayvec.specs.ArrayString.{ArrayString}
 use Rattle.board.specs.declared.board.Board.{Board}

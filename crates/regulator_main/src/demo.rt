@@ -1,11 +1,8 @@
 ghost use Rattle.std.specs.Prelude.{◌≡◌, IfOk, codes};
-ghost use Rattle.board.specs.Valid.{IsValid};
-ghost use Rattle.plain_board.specs.Inv.{Inv};
 ghost use Rattle.board.specs.Lone.{lone_graph};
 ghost use Rattle.regulator_main.specs.Demo.{IsCore, IsDemo, core_ranges, demo_regs, demo_plain};
 
 use bitflags::Flags;
-use board::laws::lone_is_valid;
 use board::{Board, Constraints, Desc, Name, Rail, Table};
 use board_graph::Graph;
 use chip_regs::{Field, Regs};
@@ -126,8 +123,8 @@ fn lone_graph(alloc: Global) -> Result<Graph, AllocError>
     })
 }
 
-/// The board `demo`.
-fn demo_board(alloc: Global) -> Result<Board, AllocError>
+/// The built-in board `demo`, one chip with the rail `core`.
+pub(crate) fn demo_board(alloc: Global) -> Result<Board, AllocError>
     ensures { IfOk result IsDemo }
 {
     let mut rails = Items::new(alloc);
@@ -145,8 +142,8 @@ fn demo_board(alloc: Global) -> Result<Board, AllocError>
     })
 }
 
-/// Its plain board.
-fn demo_plain(alloc: Global) -> Result<Plain, AllocError>
+/// Its plain board after the load.
+pub(crate) fn demo_plain(alloc: Global) -> Result<Plain, AllocError>
     ensures { IfOk result (λ plain. plain ≡ demo_plain) }
 {
     let regs = reset_regs(alloc)?;
@@ -161,17 +158,4 @@ fn demo_plain(alloc: Global) -> Result<Plain, AllocError>
         suspended: false,
         events,
     })
-}
-
-/// The built-in board, one chip with the rail `core`, and its plain board after the load.
-pub(crate) fn demo(alloc: Global) -> Result<(Board, Plain), AllocError>
-    ensures demo { IfOk result (λ made. IsDemo made.0) }
-    ensures plain { IfOk result (λ made. made.1 ≡ demo_plain) }
-    ensures valid { IfOk result (λ made. IsValid made.0) }
-    ensures inv { IfOk result (λ made. Inv made.0 made.1) }
-{
-    let board = demo_board(alloc)?;
-    lone_is_valid(&board);
-    let plain = demo_plain(alloc)?;
-    Ok((board, plain))
 }

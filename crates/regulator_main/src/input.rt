@@ -14,7 +14,7 @@ pub(crate) const SESSION_LIMIT: usize = 4_194_304;
 const PIECE: usize = 65_536;
 
 /// Why the input was not read to its end.
-#[derive(Clone, Copy, Debug, PartialEq, Eq)]
+#[derive(Clone, Copy)]
 pub(crate) enum InputError {
     /// There was no memory for it.
     Memory,

@@ -1,18 +1,19 @@
-ghost use Rattle.std.specs.Prelude.{◌≡◌, ◌≤◌, ◌+◌, ◌<◌, ◌^◌, List, IfOk, OnOk, length, flat_map, map, All};
+ghost use Rattle.std.specs.Prelude.{◌≡◌, ◌≤◌, ◌+◌, ◌++◌, ◌<◌, ◌^◌, List, IfOk, OnOk, length, flat_map, map, All};
 ghost use Rattle.board.specs.declared.board.Board.{Board as TheBoard};
 ghost use Rattle.board.specs.Valid.{IsValid};
 ghost use Rattle.plain_board.specs.declared.row.Row.{Row as TheRow};
 ghost use Rattle.plain_board.specs.History.{NamesRail, replay};
 ghost use Rattle.plain_board.specs.Inv.{Inv};
-ghost use Rattle.plain_board.specs.Text.{row_text, printed, HasRails};
+ghost use Rattle.plain_board.specs.Text.{row_text, summary_text, printed, HasRails};
 ghost use Rattle.regulator_main.specs.Demo.{IsDemo, demo_plain};
 ghost use Rattle.regulator_main.specs.Frame.{AreBuilt, AreShort};
 ghost use Rattle.regulator_main.specs.Front.{Runs};
 ghost use Rattle.regulator_main.specs.Script.{Loads, PlaysWorker};
 
-use crate::demo::demo;
+use crate::demo::{demo_board, demo_plain};
 use crate::script::run_script;
 use board::Board;
+use board::laws::lone_is_valid;
 use item_list::Items;
 use plain_board::{Call, Plain, Row, summary};
 use reg_outside::Lab;
@@ -28,6 +29,27 @@ fn rows_text(alloc: Global, board: &Board, rows: &[Row]) -> Result<Vec<u8>, Allo
     for row in rows {
         row.text(alloc, board, &mut text)?;
     }
+    Ok(text)
+}
+
+/// The text of a history: the lines of its rows, and the summary of the board after them.
+fn history_text(
+    alloc: Global,
+    board: &Board,
+    plain: &Plain,
+    workers: u16,
+    rows: &[Row],
+) -> Result<Vec<u8>, AllocError>
+    requires valid { IsValid board.now }
+    requires inv { Inv board.now plain.now }
+    requires handles { length plain.now.handles < 2 ^ 32 }
+    requires few { length rows.now ≤ 4096 }
+    requires calls { All (λ row. NamesRail board.now row.call) rows.now }
+    requires answers { All (λ row. HasRails board.now row.answer) rows.now }
+    ensures { IfOk result (λ text. text.items ≡ flat_map (row_text board.now) rows.now ++ summary_text board.now plain.now workers (length rows.now)) }
+{
+    let mut text = rows_text(alloc, board, rows)?;
+    summary(alloc, board, plain, workers, rows.len() as u32, &mut text)?;
     Ok(text)
 }
 
@@ -92,7 +114,44 @@ fn play_scripts<L: Lab>(
     }
 }
 
-/// The text of a run of the scripts on the built-in board: its rows, and the summary.
+/// The text of a run of the scripts on the built-in board and its plain board: its rows, and the summary.
+fn play_on<L: Lab>(
+    alloc: Global,
+    board: &Board,
+    plain: &mut Plain,
+    scripts: &[Items<Call>],
+    lab: &mut L,
+) -> Result<Vec<u8>, AllocError>
+    requires demo { IsDemo board.now }
+    requires start { plain.old ≡ demo_plain }
+    requires valid { IsValid board.now }
+    requires inv { Inv board.now plain.old }
+    requires built { AreBuilt scripts.now }
+    requires short { AreShort scripts.now }
+    ensures { IfOk result (λ text. (rows : List TheRow) × Runs scripts.now board.now rows (L.faults lab.old) (L.faults lab.new) (L.list lab.old) (L.list lab.new) × (text.items ≡ printed board.now demo_plain rows (length scripts.now))) }
+{
+    let rows = play_scripts(alloc, board, plain, scripts, lab)?;
+    history_text(alloc, board, plain, scripts.len() as u16, rows.as_slice())
+}
+
+/// The same from the plain board after the load.
+fn play_board<L: Lab>(
+    alloc: Global,
+    board: &Board,
+    scripts: &[Items<Call>],
+    lab: &mut L,
+) -> Result<Vec<u8>, AllocError>
+    requires demo { IsDemo board.now }
+    requires valid { IsValid board.now }
+    requires built { AreBuilt scripts.now }
+    requires short { AreShort scripts.now }
+    ensures { IfOk result (λ text. (rows : List TheRow) × Runs scripts.now board.now rows (L.faults lab.old) (L.faults lab.new) (L.list lab.old) (L.list lab.new) × (text.items ≡ printed board.now demo_plain rows (length scripts.now))) }
+{
+    let mut plain = demo_plain(alloc)?;
+    play_on(alloc, board, &mut plain, scripts, lab)
+}
+
+/// The text of a run of the scripts on the built-in board.
 pub(crate) fn play<L: Lab>(
     alloc: Global,
     scripts: &[Items<Call>],
@@ -102,10 +161,7 @@ pub(crate) fn play<L: Lab>(
     requires short { AreShort scripts.now }
     ensures { IfOk result (λ text. (board : TheBoard) × (rows : List TheRow) × Runs scripts.now board rows (L.faults lab.old) (L.faults lab.new) (L.list lab.old) (L.list lab.new) × (text.items ≡ printed board demo_plain rows (length scripts.now))) }
 {
-    let (board, mut plain) = demo(alloc)?;
-    let rows = play_scripts(alloc, &board, &mut plain, scripts, lab)?;
-    let mut text = rows_text(alloc, &board, rows.as_slice())?;
-    let workers = scripts.len() as u16;
-    summary(alloc, &board, &plain, workers, rows.len() as u32, &mut text)?;
-    Ok(text)
+    let board = demo_board(alloc)?;
+    lone_is_valid(&board);
+    play_board(alloc, &board, scripts, lab)
 }

@@ -1,7 +1,7 @@
 use Rattle.std.proofs.Common.{◌≡◌, take, flat_map, string_bytes}
 use Rattle.std.specs.List.{enumerate_from}
 use Rattle.plain_board.specs.Text.{rail_text}
-use Rattle.plain_board.proofs.summary_text.summary.Given as goal
+use Rattle.plain_board.proofs.summary_text.rails_text.Given as goal
 
 abbrev pub invariant-loop-rail : goal.invariant-loop-rail
 invariant-loop-rail l = record {

@@ -1,7 +1,7 @@
 use Rattle.std.proofs.Common.{arith}
 use Rattle.plain_board.specs.Text.{rail_text}
 use Rattle.plain_board.proofs.Enumerated.{flat_map-enumerated}
-use Rattle.plain_board.proofs.summary_text.summary.Goals as goal
+use Rattle.plain_board.proofs.summary_text.rails_text.Goals as goal
 
 pub loop-rail-preserved : goal.loop-rail-preserved
 loop-rail-preserved c =
