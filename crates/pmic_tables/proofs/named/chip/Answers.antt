@@ -1,3 +1,8 @@
+use Rattle.std.proofs.Common.{◌≡◌, ℕ, List, Some, true, false, refl}
+use Rattle.std.specs.Prelude.{codes}
+use Rattle.std.specs.Str.{bytes_eq}
+use Rattle.pmic_tables.specs.Named.{sheet_named}
+use Rattle.pmic_tables.specs.Pm12.{pm12}
 use Rattle.pmic_tables.proofs.Chips.{pm4_sound, pm8_sound, pm12_sound, pm4_apart, pm8_apart, pm12_apart}
 use Rattle.pmic_tables.proofs.named.chip.Goals as goal
 
@@ -18,3 +23,15 @@ returns-in_ok-describe-3-clause-sound c = pm12_sound c.args.number c.in_ok-descr
 
 pub returns-in_ok-describe-3-clause-apart : goal.returns-in_ok-describe-3-clause-apart
 returns-in_ok-describe-3-clause-apart c = pm12_apart c.args.number c.in_ok-describe-3.field-0 c.in_ok-describe-3.ensures
+
+-- the third name, which isn't one of the others
+third-sheet :
+    (name : List ℕ) → bytes_eq name (codes "example,pm4") ≡ false → bytes_eq name (codes "example,pm8") ≡ false → bytes_eq name (codes "example,pm12") ≡ true
+    → sheet_named name ≡ Some pm12
+third-sheet name not_first not_second is = rw (not_first, not_second, is) refl
+
+pub returns-in_ok-describe-3-clause-none : goal.returns-in_ok-describe-3-clause-none
+returns-in_ok-describe-3-clause-none c = rw (third-sheet c.args.compatible.now (cc) (cc) (cc)) (λ none. none, λ none. none)
+
+pub returns-in_ok-describe-3-clause-described : goal.returns-in_ok-describe-3-clause-described
+returns-in_ok-describe-3-clause-described c = rw (third-sheet c.args.compatible.now (cc) (cc) (cc)) c.in_ok-describe-3.ensures
