@@ -2,10 +2,8 @@
 #![tactic(auto)]
 
 mod count;
-mod fault;
 
 use count::{Count, count_of};
-use fault::{Fault, lex_fault, tree_fault};
 use std::io;
 use std::io::Read;
 
@@ -13,24 +11,15 @@ fn main(rt: HostRuntime) -> io::Result<()> {
     let mut text = Vec::new(rt.alloc());
     rt.reader().read_to_end(&mut text)?;
     if text.len() > 4_294_967_295 {
-        println!(rt; "toolong")?;
-        return Ok(());
+        return println!(rt; "TooLong");
     }
-    let Fault { name, at, end } = match count_of(rt.alloc(), text.as_slice()) {
+    match count_of(rt.alloc(), text.as_slice()) {
         Count::Counted {
             tokens,
             nodes,
             properties,
-        } => {
-            println!(rt; "tokens {tokens} nodes {nodes} properties {properties}")?;
-            return Ok(());
-        }
-        Count::Unread(fault) => lex_fault(fault),
-        Count::Refused(fault) => tree_fault(fault),
-    };
-    match (at, end) {
-        (Some(at), Some(end)) => println!(rt; "{name} {at} {end}"),
-        (Some(at), None) => println!(rt; "{name} {at}"),
-        (None, _) => println!(rt; "{name}"),
+        } => println!(rt; "tokens {tokens} nodes {nodes} properties {properties}"),
+        Count::Unread(fault) => println!(rt; "{fault:?}"),
+        Count::Refused(fault) => println!(rt; "{fault:?}"),
     }
 }

@@ -2,8 +2,8 @@ ghost use Rattle.std.specs.Prelude.{◌≡◌, ◌≤◌, length};
 ghost use Rattle.dts_lex.specs.Lex.{lexed};
 
 use crate::node::{write_node, write_values};
-use dts_lex::{Kind, LexFault, Token, is_last, lex};
-use dts_tree::{Tree, TreeFault, parse};
+use dts_lex::{Kind, Token, is_last, lex};
+use dts_tree::{Tree, parse};
 use std::alloc::{AllocError, Global};
 
 /// What a row asks of its text.
@@ -28,7 +28,7 @@ pub(crate) fn write_found(
     property: &str,
 ) -> Result<(), AllocError> {
     if text.len() > 4_294_967_295 {
-        return line.push_str("toolong");
+        return line.push_str("TooLong");
     }
     if let Asked::Prefixes = asked {
         return write_prefixes(alloc, line, text);
@@ -45,7 +45,7 @@ pub(crate) fn write_found(
             ),
             Asked::Values => write_parsed(alloc, line, text, tokens.as_slice(), Some(property)),
         },
-        Err(fault) => write_lex_fault(line, fault),
+        Err(fault) => write!(line, "{fault:?}"),
     }
 }
 
@@ -93,15 +93,6 @@ fn letter_of(kind: Kind) -> char {
     }
 }
 
-fn write_lex_fault(line: &mut String, fault: LexFault) -> Result<(), AllocError> {
-    match fault {
-        LexFault::BadChar(at) => write!(line, "badchar {at}"),
-        LexFault::Unclosed(at) => write!(line, "unclosed {at}"),
-        LexFault::NumberTooWide(at) => write!(line, "wide {at}"),
-        LexFault::Memory => write!(line, "memory"),
-    }
-}
-
 /// Appends the values of the root's property that is asked for, or else each node, of the tree of a text.
 fn write_parsed(
     alloc: Global,
@@ -115,7 +106,7 @@ fn write_parsed(
 {
     match parse(alloc, text, tokens) {
         Ok(tree) => write_tree(alloc, line, &tree, property),
-        Err(fault) => write_tree_fault(line, fault),
+        Err(fault) => write!(line, "{fault:?}"),
     }
 }
 
@@ -133,16 +124,5 @@ fn write_tree(
             }
             Ok(())
         }
-    }
-}
-
-fn write_tree_fault(line: &mut String, fault: TreeFault) -> Result<(), AllocError> {
-    match fault {
-        TreeFault::Syntax(at) => write!(line, "syntax {at}"),
-        TreeFault::NoLabel(at) => write!(line, "nolabel {at}"),
-        TreeFault::TwoLabels(at) => write!(line, "twolabels {at}"),
-        TreeFault::NotSupported { at, end } => write!(line, "notsupported {at} {end}"),
-        TreeFault::TooDeep(at) => write!(line, "toodeep {at}"),
-        TreeFault::Memory => write!(line, "memory"),
     }
 }

@@ -8,19 +8,28 @@ mod node;
 mod row;
 
 use row::differing;
+use std::alloc::Global;
 use std::io;
 
 fn main(rt: HostRuntime) -> io::Result<()> {
     let mut rows = 0_u64;
     let mut differ = 0_u64;
     for line in rt.lines(rt.alloc()) {
-        let line = line?;
         rows = rows.saturating_add(1);
-        if let Some(found) = differing(rt.alloc(), line.as_str())? {
+        if tell(&rt, line?.as_str())? {
             differ = differ.saturating_add(1);
-            println!(rt; "{line}\n    found: {found}")?;
         }
     }
-    println!(rt; "rows {rows}, of which {differ} differ")?;
-    Ok(())
+    println!(rt; "rows {rows}, of which {differ} differ")
+}
+
+/// Prints the row if it differs, with what was found, and answers whether it does.
+fn tell(rt: &(impl Print + Alloc<A = Global>), line: &str) -> io::Result<bool> {
+    match differing(rt.alloc(), line)? {
+        Some(found) => {
+            println!(rt; "{line}\n    found: {found}")?;
+            Ok(true)
+        }
+        None => Ok(false),
+    }
 }

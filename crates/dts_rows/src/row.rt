@@ -14,32 +14,28 @@ struct Row<'a> {
 /// A row is `tokens TEXT -> EXPECTED`, `tree TEXT -> EXPECTED`, `prefixes TEXT -> EXPECTED` or
 /// `values TEXT -> PROPERTY -> EXPECTED`.
 fn read(line: &str) -> Option<Row<'_>> {
-    let (asked, rest) = line.split_once(' ')?;
+    let (word, rest) = line.split_once(' ')?;
     let (text, rest) = rest.split_once(" -> ")?;
-    match asked {
-        "tokens" => Some(whole(Asked::Tokens, text, rest)),
-        "tree" => Some(whole(Asked::Tree, text, rest)),
-        "prefixes" => Some(whole(Asked::Prefixes, text, rest)),
-        "values" => {
-            let (property, expected) = rest.split_once(" -> ")?;
-            Some(Row {
-                asked: Asked::Values,
-                text,
-                property,
-                expected,
-            })
-        }
-        _ => None,
-    }
-}
-
-/// A row that asks of no property.
-fn whole<'a>(asked: Asked, text: &'a str, expected: &'a str) -> Row<'a> {
-    Row {
+    let asked = asked_by(word)?;
+    let (property, expected) = match asked {
+        Asked::Values => rest.split_once(" -> ")?,
+        _ => ("", rest),
+    };
+    Some(Row {
         asked,
         text,
-        property: "",
+        property,
         expected,
+    })
+}
+
+fn asked_by(word: &str) -> Option<Asked> {
+    match word {
+        "tokens" => Some(Asked::Tokens),
+        "tree" => Some(Asked::Tree),
+        "prefixes" => Some(Asked::Prefixes),
+        "values" => Some(Asked::Values),
+        _ => None,
     }
 }
 
