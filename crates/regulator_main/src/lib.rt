@@ -5,6 +5,7 @@ mod calls;
 mod commands;
 mod demo;
 mod desk;
+mod exit;
 mod fault;
 mod handles;
 mod input;
@@ -21,6 +22,7 @@ mod status;
 mod walk;
 
 pub use commands::{front, top};
+pub use exit::exit_code;
 pub use fault::{SessionFault, SessionKind};
 pub use laws::one_reading;
 pub use status::{Status, code};

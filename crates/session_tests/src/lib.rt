@@ -6,3 +6,5 @@
 mod same;
 #[cfg(test)]
 mod sessions;
+#[cfg(test)]
+mod usage;
