@@ -102,12 +102,15 @@ fn one_rail(rt: &impl Abort, alloc: Global) -> Result<Board, Fail>
     ensures rails { IfOk result (λ board. length board.rails ≡ 1) }
     ensures lawful { IfOk result (λ board. (regs : List (List ℕ)) → All (λ rail. IsAllowed rail (uv rail regs)) board.rails) }
 {
+    let spread = list_of(alloc, 0)?;
+    let order = list_of(alloc, 0)?;
+    let graph = lone_graph(alloc)?;
     let board = Board {
         rails: list_of(alloc, core(rt)?)?,
-        spread: list_of(alloc, 0)?,
+        spread,
         chips: 1,
-        order: list_of(alloc, 0)?,
-        graph: lone_graph(alloc)?,
+        graph,
+        order,
     };
     lone_is_valid(&board);
     Ok(board)

@@ -17,9 +17,9 @@ lone_is_valid-requires g c =
       supply = core.lone.0;
       group = core.lone.1;
       steps = core.lone.2;
-      spread = c.in_ok-list_of-2.ensures;
-      graph = c.in_ok-lone_graph.ensures;
-      order = c.in_ok-list_of-3.ensures;
+      spread = c.in_ok-spread.ensures;
+      graph = c.in_ok-graph.ensures;
+      order = c.in_ok-order.ensures;
     }
 
 pub returns-clause-lawful : goal.returns-clause-lawful
