@@ -7,7 +7,7 @@ use item_list::Items;
 use linear_range::Pick;
 
 /// Rails on chips, and what ties them to each other. Rails, chips and groups are numbered from 0.
-#[derive(Debug, Drop)]
+#[derive(Drop)]
 pub struct Board {
     pub rails: Items<Rail>,
     /// By how much coupled rails may differ, in µV, by the number of their group.

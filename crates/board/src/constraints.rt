@@ -4,7 +4,7 @@ use ramp_delay::Times;
 
 /// What the board's author asks of a rail, after Linux's binding
 /// `Documentation/devicetree/bindings/regulator/regulator.yaml`. A number that isn't given is 0.
-#[derive(Clone, Copy, Debug)]
+#[derive(Clone, Copy)]
 pub struct Constraints {
     /// The least and the greatest value, in µV (`regulator-min-microvolt`,
     /// `regulator-max-microvolt`).

@@ -2,7 +2,7 @@ use crate::table::Table;
 use chip_regs::Field;
 
 /// How a chip makes a rail: its voltages, its register fields, its loads and its times.
-#[derive(Debug, Drop)]
+#[derive(Drop)]
 pub struct Desc {
     /// The voltages by selector, in µV.
     pub table: Table,

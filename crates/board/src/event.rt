@@ -1,5 +1,5 @@
 /// What a rail tells its listeners. Values are µV.
-#[derive(Clone, Copy, Debug, PartialEq, Eq)]
+#[derive(Clone, Copy)]
 pub enum Event {
     PreVoltageChange { old: u32, new: u32 },
     VoltageChange { uv: u32 },

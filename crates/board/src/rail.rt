@@ -11,7 +11,7 @@ use chip_regs::{Field, Regs};
 use linear_range::Pick;
 
 /// A rail: how its chip makes it, what the board asks of it, and the rail that supplies it.
-#[derive(Debug, Drop)]
+#[derive(Drop)]
 pub struct Rail {
     /// No other rail of the board has it.
     pub name: Name,

@@ -1,6 +1,6 @@
 /// How a board is suspended, as Linux names it: in standby, with its memory kept, or with its
 /// memory on the disk.
-#[derive(Clone, Copy, Debug, PartialEq, Eq)]
+#[derive(Clone, Copy, PartialEq, Eq)]
 pub enum State {
     Standby,
     Mem,

@@ -9,7 +9,7 @@ use linear_range::{Pick, RangeTable};
 use voltage_table::{ListPick, VoltList};
 
 /// The voltages of a rail by selector.
-#[derive(Debug, Drop)]
+#[derive(Drop)]
 pub enum Table {
     /// Evenly spaced voltages, in up to eight ranges.
     Ranges(RangeTable<8>),

@@ -2,7 +2,7 @@ use item_list::Items;
 
 /// What ties the rails of a board to each other. Rails are numbered from 0, and each of the three
 /// lists has one entry a rail.
-#[derive(Debug, Drop)]
+#[derive(Drop)]
 pub struct Graph {
     /// The rail that supplies each rail.
     pub supply: Items<Option<u16>>,

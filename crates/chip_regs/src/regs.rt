@@ -9,7 +9,7 @@ use std::marker::Model;
 
 /// The registers of a board's chips, 256 a chip. Contracts see the chips in order, each as the
 /// list of what its registers hold.
-#[derive(Debug, Drop)]
+#[derive(Drop)]
 pub struct Regs {
     chips: Vec<[Bits; 256]>,
 }

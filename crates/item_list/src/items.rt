@@ -6,7 +6,7 @@ use std::marker::Model;
 
 /// A `Vec` that contracts see as the list of its items: two with the same items are equal,
 /// whatever room they have reserved.
-#[derive(Debug, Drop)]
+#[derive(Drop)]
 pub struct Items<T> {
     items: Vec<T>,
 }

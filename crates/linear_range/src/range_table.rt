@@ -14,7 +14,7 @@ use std::marker::Model;
 
 /// At most `N` ranges with their values; no two have a selector in common. Contracts see the
 /// ranges in order.
-#[derive(Clone, Debug, Drop)]
+#[derive(Drop)]
 pub struct RangeTable<const N: usize> {
     ranges: ArrayVec<LinearRange, N>,
 }

@@ -2,7 +2,7 @@ use board::RailId;
 use item_list::Items;
 
 /// What a call is answered. Values are µV, delays µs.
-#[derive(Debug, Drop)]
+#[derive(Drop)]
 pub enum Answer {
     Ok,
     /// The rail stands at `uv` after `delay`.

@@ -1,7 +1,7 @@
 use board::{Handle, RailId};
 
 /// What a worker asks of its board. Values are µV.
-#[derive(Clone, Copy, Debug)]
+#[derive(Clone, Copy)]
 pub enum Call {
     /// Opens a handle on a rail; an exclusive one is alone on it.
     Open {

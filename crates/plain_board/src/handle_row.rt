@@ -1,7 +1,7 @@
 use board::Handle;
 
 /// One open handle of a worker: what it holds, asks and draws. A request is in µV, a load in µA.
-#[derive(Clone, Copy, Debug)]
+#[derive(Clone, Copy)]
 pub struct HandleRow {
     pub worker: u16,
     pub handle: Handle,

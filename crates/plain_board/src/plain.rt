@@ -5,7 +5,7 @@ use item_list::Items;
 
 /// All that a board without threads has: its registers, the open handles rail by rail and on each
 /// rail in the order of opening, and by rail its hold and its events.
-#[derive(Debug, Drop)]
+#[derive(Drop)]
 pub struct Plain {
     pub regs: Regs,
     pub handles: Items<(RailId, HandleRow)>,

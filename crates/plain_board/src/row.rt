@@ -7,7 +7,7 @@ use std::alloc::{AllocError, Global};
 
 /// One line of a history: the call of a worker's script, its answer, and the register writes that
 /// it made where they are kept. `line` counts the worker's lines from 1.
-#[derive(Debug, Drop)]
+#[derive(Drop)]
 pub struct Row {
     pub worker: u16,
     pub line: u32,

@@ -3,7 +3,7 @@ use chip_regs::Bits;
 use item_list::Items;
 
 /// A chip as its data sheet has it.
-#[derive(Debug, Drop)]
+#[derive(Drop)]
 pub struct ChipDesc {
     /// The rails in the chip's order.
     pub rails: Items<ChipRail>,
@@ -12,7 +12,7 @@ pub struct ChipDesc {
 }
 
 /// A rail of a chip.
-#[derive(Debug, Drop)]
+#[derive(Drop)]
 pub struct ChipRail {
     /// The name of its node in devicetree source.
     pub node: Name,

@@ -8,7 +8,7 @@ use crate::source::Source;
 use std::marker::Model;
 
 /// A source over bytes in memory, of which some reads fail. It tells what is left.
-#[derive(Debug, Drop)]
+#[derive(Drop)]
 pub struct MemSource {
     bytes: Vec<u8>,
     taken: usize,

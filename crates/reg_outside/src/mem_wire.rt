@@ -11,7 +11,7 @@ use std::marker::Model;
 
 /// A wire into memory with room for so many updates, of which some are refused. It tells what it
 /// accepted.
-#[derive(Debug, Drop)]
+#[derive(Drop)]
 pub struct MemWire {
     accepted: Vec<(u8, u8, Mask, Mask)>,
     room: u32,

@@ -5,7 +5,7 @@ use crate::lab::Lab;
 use crate::wire::{Mask, Wire};
 
 /// A wire that accepts every update and tells none.
-#[derive(Clone, Copy, Debug, PartialEq, Eq)]
+#[derive(Clone, Copy)]
 pub struct NullWire;
 
 impl Wire for NullWire {
@@ -23,7 +23,7 @@ impl Wire for NullWire {
 }
 
 /// A lab of wires that accept every update. It tells no list.
-#[derive(Clone, Copy, Debug, PartialEq, Eq)]
+#[derive(Clone, Copy)]
 pub struct NullLab;
 
 impl Lab for NullLab {

@@ -10,7 +10,7 @@ use crate::wire::{Mask, Wire};
 use std::marker::Model;
 
 /// A wire of which some updates are refused and never reach it. It tells which.
-#[derive(Debug, Drop)]
+#[derive(Drop)]
 pub struct Planned<W> {
     inner: W,
     plan: Schedule,

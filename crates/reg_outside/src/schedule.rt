@@ -5,7 +5,7 @@ use std::marker::Model;
 
 /// Which of many calls are refused, by their numbers from 1. The number of calls so far stands
 /// still at the greatest `u64`.
-#[derive(Debug, Drop)]
+#[derive(Drop)]
 pub(crate) struct Schedule {
     tried: u64,
     refused: Vec<u32>,

@@ -14,7 +14,7 @@ use std::marker::Model;
 
 /// At most `N` values in µV, in any order and with repeats: selector 0 has the first. Contracts see
 /// the values in order.
-#[derive(Clone, Debug, Drop)]
+#[derive(Drop)]
 pub struct VoltList<const N: usize> {
     values: ArrayVec<u32, N>,
 }
