@@ -67,5 +67,13 @@ fn digits(base: u32, bytes: &[u8]) -> (usize, u64)
 fn is_suffix(bytes: &[u8]) -> bool
     ensures { result ≡ number.is_suffix bytes.now }
 {
-    matches!(bytes, b"" | b"U" | b"L" | b"UL" | b"LL" | b"ULL")
+    let suffixes = [
+        b"".as_slice(),
+        b"U".as_slice(),
+        b"L".as_slice(),
+        b"UL".as_slice(),
+        b"LL".as_slice(),
+        b"ULL".as_slice(),
+    ];
+    suffixes.contains(&bytes)
 }

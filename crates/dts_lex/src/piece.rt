@@ -53,7 +53,6 @@ pub(crate) fn piece_at(
 }
 
 /// A comment, a directive or a lone slash.
-#[tactic(auto, using(crate::proofs::ScanLemmas::run_end_bounds), unfolding(crate::specs::Piece::slash_at))]
 fn slash_at(text: &[u8], at: usize) -> Result<Piece, LexFault>
     requires inside { at < length text.now }
     requires short { length text.now ≤ 4294967295 }
@@ -157,15 +156,18 @@ fn is_version(directive: &[u8]) -> bool
 fn is_preprocessor(word: &[u8]) -> bool
     ensures { result ≡ piece.is_preprocessor word.now }
 {
-    word == b"#include".as_slice()
-        || word == b"#define".as_slice()
-        || word == b"#undef".as_slice()
-        || word == b"#if".as_slice()
-        || word == b"#ifdef".as_slice()
-        || word == b"#ifndef".as_slice()
-        || word == b"#else".as_slice()
-        || word == b"#endif".as_slice()
-        || word == b"#line".as_slice()
-        || word == b"#error".as_slice()
-        || word == b"#pragma".as_slice()
+    let words = [
+        b"#include".as_slice(),
+        b"#define".as_slice(),
+        b"#undef".as_slice(),
+        b"#if".as_slice(),
+        b"#ifdef".as_slice(),
+        b"#ifndef".as_slice(),
+        b"#else".as_slice(),
+        b"#endif".as_slice(),
+        b"#line".as_slice(),
+        b"#error".as_slice(),
+        b"#pragma".as_slice(),
+    ];
+    words.contains(&word)
 }

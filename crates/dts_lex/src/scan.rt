@@ -6,7 +6,6 @@ use crate::class::Class;
 use crate::fault::LexFault;
 
 /// Where the run of the class ends that may begin at `at`.
-#[tactic(auto, using(crate::proofs::ScanLemmas::run_end_more, crate::proofs::ScanLemmas::run_end_stop, crate::proofs::ScanLemmas::run_end_past))]
 pub(crate) fn run_end(class: Class, text: &[u8], at: usize) -> usize
     requires { at ≤ length text.now }
     ensures { result ≡ run_end class text.now at }
@@ -35,7 +34,6 @@ pub(crate) fn comment_end(text: &[u8], from: usize) -> Option<usize>
 }
 
 /// Where the string ends whose quote stands at `quote`: behind its closing quote.
-#[tactic(auto, using(crate::proofs::ScanLemmas::string_end_plain, crate::proofs::ScanLemmas::string_end_escape))]
 pub(crate) fn string_end(text: &[u8], quote: usize) -> Result<usize, LexFault>
     requires inside { quote < length text.now }
     requires short { length text.now ≤ 4294967295 }
@@ -64,7 +62,6 @@ pub(crate) fn string_end(text: &[u8], quote: usize) -> Result<usize, LexFault>
 }
 
 /// Whether the line of `at` has blanks alone before it.
-#[tactic(auto, using(crate::proofs::ScanLemmas::begins_line_start, crate::proofs::ScanLemmas::begins_line_newline, crate::proofs::ScanLemmas::begins_line_other))]
 pub(crate) fn begins_line(text: &[u8], at: usize) -> bool
     requires { at ≤ length text.now }
     ensures { result ≡ begins_line (take at text.now) }

@@ -1,3 +1,4 @@
+pub mod ExitLemmas
 pub mod FirstsLemmas
 pub mod NamedLemmas
 pub mod NamesLemmas

@@ -1,6 +1,7 @@
 -- A new key behind keys that tell all nodes apart.
-use Rattle.std.proofs.Common.{◌≡◌, ℕ, ◌+◌, ◌-◌, ◌<◌, ◌≤◌, List, [], ◌∷◌, ◌++◌, Bool, true, false, ◌&&◌, cond, inl, inr, length, get_or, Some, None, nat_lt, refl, sym, ap, ◌∙◌, subst, nat_eq, not, add-one, arith}
+use Rattle.std.proofs.Common.{◌≡◌, ℕ, ◌+◌, ◌-◌, ◌<◌, ◌≤◌, List, [], ◌∷◌, ◌++◌, Bool, true, false, ◌&&◌, cond, inl, inr, length, get_or, Some, None, nat_lt, refl, sym, ap, ◌∙◌, subst, nat_eq, not, add-one, take, arith}
 use Rattle.std.proofs.Math.Logic.{⊎_elim}
+use Rattle.std.proofs.Math.Seq.{take-append_seam}
 use Rattle.std.specs.List.{position_or_len, position, list_any}
 use Rattle.std.specs.Cmp.Lexicographic.{pointwise}
 use Rattle.std.proofs.lemmas.Bool.{cases_eq, cases_lt, lt-ltb, le-ltb, or_parts, cases_Bool, cond-true, cond-false, false_from_ne_true, eq-eqb, ne_eqb, and_left, and_right}
@@ -216,6 +217,17 @@ pub depth_at : (keys : List (ℕ × ℕ)) (depths : List ℕ) (k x : ℕ) → Nu
 depth_at keys depths k x h inside is = get_or_read depths k x (rw (depths_long keys depths h) inside) is 0
 
 -- the key of a node that isn't the root
+pub depth_is : (keys : List (ℕ × ℕ)) (depths : List ℕ) (k x : ℕ) (paths : List (List ℕ)) → Numbered keys depths → paths_of keys ≡ paths → k < length paths → x ≡ get_or depths k x → x ≡ length (get_or paths k [])
+depth_is keys depths k x paths h is inside here =
+    let inside_keys : k < length (paths_of keys) = rw is inside in
+    depth_at keys depths k x h inside_keys here ∙ ap (λ (ds : List ℕ). get_or ds k 0) h.deep ∙ get_or-map length (paths_of keys) k [] 0 inside_keys ∙ ap (λ ps. length (get_or ps k [])) is
+
+-- what is pushed and then taken away
+pub popped : (xs pushed left : List ℕ) (x n : ℕ) → pushed ≡ xs ++ x ∷ [] → n ≡ length pushed → left ≡ take (n - 1) pushed → left ≡ xs
+popped xs pushed left x n is long rest =
+    let before : n - 1 ≡ length xs = omega (arith, long, ap length is, length_push xs x) in
+    rest ∙ rw (before, is) (take-append_seam xs (x ∷ []))
+
 pub key-path : (keys : List (ℕ × ℕ)) (paths : List (List ℕ)) (node : ℕ) (k : ℕ × ℕ) → Paths keys paths → 0 < node → node < length paths → k ≡ get_or keys (node - 1) (0, 0) → (get_or paths node [] ≡ k.1 ∷ get_or paths k.0 []) × (k.0 < node)
 key-path keys paths node k h some inside is =
     let at : node - 1 + 1 ≡ node = omega (arith, some) in

@@ -1,11 +1,11 @@
 -- What is kept while steps are read, and what has been read by it.
-use Rattle.std.proofs.Common.{◌≡◌, ℕ, ◌+◌, ◌<◌, ◌≤◌, ◌⊎◌, List, [], ◌∷◌, ◌++◌, Bool, true, false, not, cond, Option, Some, None, Ok, Err, inl, inr, length, map, get_or, reverse, nat_eq, refl, sym, ap, ◌∙◌, subst, arith}
+use Rattle.std.proofs.Common.{◌≡◌, ℕ, ◌+◌, ◌-◌, ◌<◌, ◌≤◌, ◌⊎◌, List, [], ◌∷◌, ◌++◌, Bool, true, false, not, cond, Option, Some, None, Ok, Err, inl, inr, length, map, get_or, reverse, take, nat_eq, refl, sym, ap, ◌∙◌, subst, arith, drop}
 use Rattle.std.proofs.Math.Logic.{⊎_elim}
 use Rattle.std.specs.Option.{option_map}
 use Rattle.std.specs.Map.{lookup}
 use Rattle.std.specs.Cmp.Lexicographic.{pointwise}
 use Rattle.std.proofs.lemmas.Bool.{cases_eq, cases_lt, cases_Bool, cond-true, cond-false, lt-ltb, le-ltb, false_from_ne_true}
-use Rattle.std.proofs.lemmas.List.{reverse-append, map-append, get_or_append_left, get_or_push, get_or_past, length_push}
+use Rattle.std.proofs.lemmas.List.{reverse-append, map-append, get_or_append_left, get_or_push, get_or_past, length_push, at_drop_more, take_all, take_more}
 use Rattle.std.proofs.lemmas.List.Sums.{prefix_len-le-length, fails_before_first, passes_at_first}
 use Rattle.std.proofs.lemmas.Slice.Eq.{bytes_eq-Decides}
 use Rattle.dts_tree.specs.declared.setting.Setting.{Setting}
@@ -207,6 +207,27 @@ module _ (r : Reader) (new : List (List ℕ)) (path : List ℕ) (k : ℕ) (h : S
       ∙ ap (λ (ps : List (List ℕ)). record (opened nat_eq (reading r) path at) { paths = ps }) again)
 
 -- ---- step by step
+
+pub last_first : (xs : List ℕ) (x : ℕ) → 0 < length xs → x ≡ get_or xs (length xs - 1) x → reverse xs ≡ x ∷ reverse (take (length xs - 1) xs)
+last_first xs x some is =
+    let last = length xs - 1 in
+    ap reverse (sym (take_all (last + 1) xs (omega arith)) ∙ take_more xs last x (omega arith))
+    ∙ reverse-append (take last xs) (get_or xs last x ∷ [])
+    ∙ ap (λ y. y ∷ reverse (take last xs)) (sym is)
+
+-- one waiting label more
+module _ (labels : List (ℕ × ℕ)) (node : Option ℕ) (ws : List (ℕ × ℕ)) (i : ℕ) (inside : i < length ws) (at : Option ℕ) (is : lookup (nat_eq (get_or ws i (0, 0)).0) labels ≡ at) where
+  elsewhere-next : (off : Bool) → stands_off node at ≡ off → elsewhere_by_number labels node (drop i ws) ≡ cond off (Some (get_or ws i (0, 0)).1) (elsewhere_by_number labels node (drop (i + 1) ws))
+  elsewhere-next off stands =
+      at_drop_more (elsewhere_by_number labels node) ws i (0, 0) inside
+      ∙ ap (λ b. cond b (Some (get_or ws i (0, 0)).1) (elsewhere_by_number labels node (drop (i + 1) ws))) (ap (stands_off node) is ∙ stands)
+
+  pub elsewhere-here : stands_off node at ≡ true → Some (get_or ws i (0, 0)).1 ≡ elsewhere_by_number labels node (drop i ws)
+  elsewhere-here off = sym (elsewhere-next true off)
+
+  pub elsewhere-later : stands_off node at ≡ false → elsewhere_by_number labels node (drop (i + 1) ws) ≡ elsewhere_by_number labels node (drop i ws)
+  elsewhere-later off = sym (elsewhere-next false off)
+
 pub walked-ok : {N : Type 0} (eq : N → N → Bool) (r next : Reading N) (s : Said N) (ss : List (Said N)) → stepped eq r s ≡ Ok next → walked eq r (s ∷ ss) ≡ walked eq next ss
 unfolding walked
 walked-ok eq r next s ss is = ap (unless_fault eq (λ q. walked eq q ss)) is

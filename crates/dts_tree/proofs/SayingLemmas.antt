@@ -1,7 +1,7 @@
 -- Steps of the definitions of `Saying` along a value and along the steps.
-use Rattle.std.proofs.Common.{◌≡◌, ℕ, suc, ◌+◌, ◌-◌, ◌<◌, ◌≤◌, List, [], ◌∷◌, Bool, true, false, Option, Some, None, length, get_or, drop, map, refl, sym, ap, ◌∙◌, arith}
+use Rattle.std.proofs.Common.{◌≡◌, ℕ, zero, suc, ◌+◌, ◌-◌, ◌<◌, ◌≤◌, List, [], ◌∷◌, Bool, true, false, Option, Some, None, length, get_or, drop, map, refl, sym, ap, ◌∙◌, arith}
 use Rattle.std.specs.Prelude.{is_some, slice_range}
-use Rattle.std.specs.List.{find, flat_map}
+use Rattle.std.specs.List.{AllByRecursion, find, flat_map}
 use Rattle.std.specs.Option.{option_or}
 use Rattle.std.proofs.lemmas.List.{drop_more, drop_all, get_or-map}
 use Rattle.std.proofs.lemmas.List.Folds.{find-append}
@@ -49,3 +49,8 @@ module _ (known : Token → Bool) (tokens : List Token) (steps : List Step) (at 
 pub unknown_nowhere : (known : Token → Bool) (tokens : List Token) (steps : List Step) (at : ℕ) → length steps ≤ at → unknown_ref known tokens (drop at steps) ≡ None
 unfolding unknown_ref
 unknown_nowhere known tokens steps at past = rw (drop_all at steps past) refl
+
+pub each_at : {X : Type 0} (P : X → Type 0) (xs : List X) (i : ℕ) (d : X) → AllByRecursion P xs → i < length xs → P (get_or xs i d)
+each_at P [] i d h inside = absurd (omega (arith, inside))
+each_at P (x ∷ xs) zero d h inside = h.0
+each_at P (x ∷ xs) (suc i) d h inside = each_at P xs i d h.1 (omega (arith, inside))

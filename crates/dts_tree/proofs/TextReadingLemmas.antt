@@ -20,7 +20,7 @@ use Rattle.dts_tree.specs.Saying.{said_with, value_of, is_ref, is_unknown, unkno
 use Rattle.dts_tree.specs.declared.fault.TreeFault.TheVariants as fault
 use Rattle.dts_tree.specs.declared.outline.OutlineFault.{OutlineFault}
 use Rattle.dts_tree.specs.Outline.{IsOutline}
-use Rattle.dts_tree.specs.TextReading.{read_of, names_label, reading_in, tree_fault, fault_behind, or_fault, checked, IsOutcome}
+use Rattle.dts_tree.specs.TextReading.{read_of, names_label, reading_in, fault_behind, or_fault, checked, IsOutcome}
 use Rattle.dts_tree.specs.Within.{IsStepWithin}
 use Rattle.dts_tree.proofs.NamedLemmas.{SaysNamed, read_nodes_named, named_at}
 use Rattle.dts_tree.proofs.NamesLemmas.{name_of_number, names_tell, number_named}
@@ -115,25 +115,13 @@ module _ (text : List ℕ) (tokens : List Token) (bytes : (i : ℕ) → get_or t
     read_all : read_of text tokens steps ≡ Ok (reading_in text tokens reader)
     read_all = read_named text tokens steps bytes within ∙ ap (read_by (name_at text tokens)) is
 
-    pub outcome_grammar : (o : Option OutlineFault) (g : OutlineFault) → IsOutline text tokens steps o → o ≡ Some g → IsOutcome text tokens (Err (tree_fault g))
-    outcome_grammar o g outline some =
-        (steps, o, outline, ap (checked (fault_behind text tokens steps o)) read_all ∙ ap (λ p. or_fault (reading_in text tokens reader) (fault_behind text tokens steps p (reading_in text tokens reader))) some)
+    pub outcome_behind : (o : Option OutlineFault) (r : Option TreeFault) → IsOutline text tokens steps o → r ≡ fault_behind text tokens steps o (reading_in text tokens reader) → IsOutcome text tokens (or_fault (reading_in text tokens reader) r)
+    outcome_behind o r outline behind = (steps, o, outline, ap (checked (fault_behind text tokens steps o)) read_all ∙ ap (or_fault (reading_in text tokens reader)) (sym behind))
 
-    outcome_labels : (o : Option OutlineFault) (r : Option Token) → IsOutline text tokens steps o → o ≡ None → r ≡ unknown_ref (λ t. is_some (lookup (nat_eq (number_in text tokens t)) reader.labels.entries)) tokens steps → IsOutcome text tokens (or_fault (reading_in text tokens reader) (option_map (λ t. fault.NoLabel t.start) r))
-    outcome_labels o r outline none unknown = (
-      steps,
-      o,
-      outline,
-      ap (checked (fault_behind text tokens steps o)) read_all
-          ∙ ap (λ p. or_fault (reading_in text tokens reader) (fault_behind text tokens steps p (reading_in text tokens reader))) none
-          ∙ ap (λ u. or_fault (reading_in text tokens reader) (option_map (λ (t : Token). fault.NoLabel t.start) u)) (sym (unknown ∙ unknown_named text tokens bytes reader steps within)),
-    )
-
-    pub outcome_label : (o : Option OutlineFault) (t : Token) → IsOutline text tokens steps o → o ≡ None → Some t ≡ unknown_ref (λ t. is_some (lookup (nat_eq (number_in text tokens t)) reader.labels.entries)) tokens steps → IsOutcome text tokens (Err (fault.NoLabel t.start))
-    outcome_label o t outline none unknown = outcome_labels o (Some t) outline none unknown
-
-    pub outcome_read : (o : Option OutlineFault) → IsOutline text tokens steps o → o ≡ None → None ≡ unknown_ref (λ t. is_some (lookup (nat_eq (number_in text tokens t)) reader.labels.entries)) tokens steps → IsOutcome text tokens (Ok (reading_in text tokens reader))
-    outcome_read o outline none unknown = outcome_labels o None outline none unknown
+pub unknown_behind : (text : List ℕ) (tokens : List Token) (bytes : (i : ℕ) → get_or text i 0 < 256) (steps : List Step) → AllByRecursion (IsStepWithin (length tokens)) steps → (reader : Reader) (o : Option OutlineFault) (r : Option Token) (told : List Step) → o ≡ None → told ≡ steps → r ≡ unknown_ref (λ t. is_some (lookup (nat_eq (number_in text tokens t)) reader.labels.entries)) tokens told → option_map (λ (t : Token). fault.NoLabel t.start) r ≡ fault_behind text tokens steps o (reading_in text tokens reader)
+unknown_behind text tokens bytes steps within reader o r told none all unknown =
+    ap (option_map (λ (t : Token). fault.NoLabel t.start)) (unknown ∙ ap (unknown_ref (λ t. is_some (lookup (nat_eq (number_in text tokens t)) reader.labels.entries)) tokens) all ∙ unknown_named text tokens bytes reader steps within)
+    ∙ ap (λ p. fault_behind text tokens steps p (reading_in text tokens reader)) (sym none)
 
 -- the names of nodes are those of tokens
 

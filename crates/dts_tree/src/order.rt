@@ -20,9 +20,9 @@ pub(crate) fn tree_order(alloc: Global, parents: &[u32]) -> Result<Vec<u32>, All
     ensures inside { IfOk result (λ order. AllBelow (length parents.now) order.items) }
 {
     let links = links_of(alloc, parents)?;
-    let mut order = Vec::new(alloc);
     let mut waiting = Vec::new(alloc);
     waiting.push(0)?;
+    let mut order = Vec::new(alloc);
     while let Some(node) = waiting.pop() {
         order.push(node)?;
         put(&mut waiting, links.next[node as usize])?;

@@ -144,16 +144,19 @@ impl Reader {
         ensures count { OnOk result (length self.new.nodes ≤ length self.old.nodes + 1) }
     {
         match *said {
-            Said::Label { name, at } => self.waiting.push((name, at))?,
-            Said::Root { at } => self.open(0, at)?,
-            Said::Node { name, at } => self.node(name, at)?,
-            Said::Add { label, at } => self.add(label, at)?,
+            Said::Label { name, at } => {
+                self.waiting.push((name, at))?;
+                Ok(())
+            }
+            Said::Root { at } => self.open(0, at),
+            Said::Node { name, at } => self.node(name, at),
+            Said::Add { label, at } => self.add(label, at),
             Said::Leave => {
                 self.bodies.pop();
+                Ok(())
             }
-            Said::Property { name, from, to } => self.property(name, from, to)?,
+            Said::Property { name, from, to } => self.property(name, from, to),
         }
-        Ok(())
     }
 }
 

@@ -1,4 +1,4 @@
-ghost use Rattle.std.specs.Prelude.{◌≡◌, ◌≢◌, ◌≤◌, ◌<◌, ◌^◌, ℕ, List, length, map, nat_eq, IfOk, IfErr};
+ghost use Rattle.std.specs.Prelude.{◌≡◌, ◌≢◌, ◌≤◌, ◌<◌, ◌^◌, ℕ, List, length, map, nat_eq, slice_index, IfOk, IfErr};
 ghost use Rattle.std.specs.List.{AllByRecursion};
 ghost use Rattle.dts_lex.specs.Lex.{SpansRise};
 ghost use Rattle.dts_tree.specs.Firsts.{found_in};
@@ -6,13 +6,13 @@ ghost use Rattle.dts_tree.specs.Names.{first_with, known_before, number_in};
 ghost use Rattle.dts_tree.specs.Reader.{reading, Standing};
 ghost use Rattle.dts_tree.specs.Reading.{nothing_read, walked};
 ghost use Rattle.dts_tree.specs.Saying.{said_with};
-ghost use Rattle.dts_tree.specs.TextReading.{IsOutcome, reading_in, tree_fault};
+ghost use Rattle.dts_tree.specs.TextReading.{IsOutcome, fault_behind, reading_in, tree_fault};
 ghost use Rattle.dts_tree.specs.Tree.{AreNamed};
 ghost use Rattle.dts_tree.specs.Within.{IsStepWithin};
 
 use crate::fault::TreeFault;
 use crate::names::{Names, names_of};
-use crate::outline::{OutlineFault, outline_of};
+use crate::outline::{Outline, OutlineFault, outline_of};
 use crate::reader::{Reader, read};
 use crate::saying::{sayings, unknown_ref};
 use crate::step::Step;
@@ -41,26 +41,51 @@ pub(crate) fn reading_of(
         → found_in r.names.firsts q ≡ known_before (first_with text.now tokens.now q) (length tokens.now)) }
     ensures fault { IfErr result (λ fault. fault ≢ TreeFault.Memory → IsOutcome text.now tokens.now (Err fault)) }
 {
-    let outline = outline_of(alloc, text, tokens)?;
     let names = names_of(alloc, text, tokens)?;
-    let reader = read_steps(
-        alloc,
-        tokens,
-        names.numbers.as_slice(),
-        outline.steps.as_slice(),
-    )?;
+    let reader = reader_of(alloc, text, tokens, names.numbers.as_slice())?;
+    Ok(TextReading { reader, names })
+}
+
+/// Reads a text whose tokens have these names.
+fn reader_of(
+    alloc: Global,
+    text: &[u8],
+    tokens: &[Token],
+    numbers: &[u32],
+) -> Result<Reader, TreeFault>
+    requires short { length text.now ≤ 4294967295 }
+    requires spans { SpansRise 0 (length text.now) tokens.now }
+    requires numbers { numbers.now ≡ map (number_in text.now tokens.now) tokens.now }
+    ensures ok { IfOk result (λ reader. IsOutcome text.now tokens.now (Ok (reading_in text.now tokens.now reader))) }
+    ensures standing { IfOk result (λ reader. Standing reader) }
+    ensures named { IfOk result (λ reader. AreNamed text.now tokens.now reader.nodes) }
+    ensures fault { IfErr result (λ fault. fault ≢ TreeFault.Memory → IsOutcome text.now tokens.now (Err fault)) }
+{
+    let outline = outline_of(alloc, text, tokens)?;
+    let reader = read_steps(alloc, tokens, numbers, outline.steps.as_slice())?;
+    match fault_behind(tokens, numbers, &reader, &outline) {
+        Some(fault) => Err(fault),
+        None => Ok(reader),
+    }
+}
+
+/// The fault behind all steps: that of the grammar, or else a reference in a value that names no label.
+fn fault_behind(
+    tokens: &[Token],
+    numbers: &[u32],
+    reader: &Reader,
+    outline: &Outline,
+) -> Option<TreeFault>
+    requires long { length numbers.now ≡ length tokens.now }
+    requires within { AllByRecursion (IsStepWithin (length tokens.now)) outline.now.steps }
+    ensures { (text : List ℕ) → ((i : ℕ) → slice_index text i < 256) → numbers.now ≡ map (number_in text tokens.now) tokens.now
+        → result ≡ fault_behind text tokens.now outline.now.steps outline.now.fault (reading_in text tokens.now reader.now) }
+{
     if let Some(fault) = outline.fault {
-        return Err(tree_fault(fault));
+        return Some(tree_fault(fault));
     }
-    match unknown_ref(
-        tokens,
-        names.numbers.as_slice(),
-        &reader.labels,
-        outline.steps.as_slice(),
-    ) {
-        Some(token) => Err(TreeFault::NoLabel(token.start)),
-        None => Ok(TextReading { reader, names }),
-    }
+    let token = unknown_ref(tokens, numbers, &reader.labels, outline.steps.as_slice())?;
+    Some(TreeFault::NoLabel(token.start))
 }
 
 /// Reads the steps of a text whose tokens have these names.

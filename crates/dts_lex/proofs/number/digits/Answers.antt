@@ -32,3 +32,14 @@ loop-count-preserved c = record {
 pub returns-clause-count : goal.returns-clause-count
 returns-clause-count c =
     sym (prefix_len_is (λ b. is_digit b c.args.base) c.args.bytes.now c.loop-count.count 0 c.loop-count.invariant.inside c.loop-count.invariant.digits (λ more. absurd (omega arith)))
+
+pub returns-in_default-clause-value : goal.returns-in_default-clause-value
+returns-in_default-clause-value c = c.loop-count.invariant.value
+
+pub overflow_mul-value : goal.overflow_mul-value
+overflow_mul-value c =
+    let fits = digit_fits c.loop-count.value c.args.base 0 (omega (arith, c.loop-count.invariant.value)) c.requires.high (omega arith) in
+    rw c.from.ensures (omega (arith, fits))
+
+pub returns-clause-value : goal.returns-clause-value
+returns-clause-value c = c.loop-count.invariant.value

@@ -1,10 +1,12 @@
-use Rattle.std.proofs.Common.{◌≡◌, ◌∙◌, ap, arith, get_or, cond, Some, None}
+use Rattle.std.proofs.Common.{◌≡◌, ◌∙◌, ap, arith, get_or, cond, map, Some, None}
 use Rattle.std.specs.Str.{bytes_eq}
 use Rattle.dts_lex.specs.declared.token.Token.{Token}
 use Rattle.dts_lex.specs.declared.token.Kind.TheVariants as kind
+use Rattle.std.proofs.lemmas.Result.{IfOk-from_err}
 use Rattle.dts_tree.specs.Firsts.{found_in}
 use Rattle.dts_tree.specs.Names.{name_of, number_in, or_else, or_this}
 use Rattle.dts_tree.proofs.NamesLemmas.{known_more, number_here, map_more}
+use Rattle.std.proofs.lemmas.List.{take_all}
 use Rattle.dts_tree.proofs.names.names_of.Goals as goal
 
 abbrev blank : Token
@@ -24,3 +26,22 @@ loop-at-preserved c =
       numbers = map_more (number_in text tokens) tokens at blank c.loop-at.numbers c.in_ok-number.number c.loop-at-test.true now.numbers
           (c.in_ok-number.ensures.number ∙ ap (λ n. or_this (found_in c.loop-at.firsts n) at) name ∙ number_here text tokens at blank c.loop-at-test.true _ (now.known (name_of text (get_or tokens at blank))));
     })
+
+pub returns-clause-numbers : goal.returns-clause-numbers
+returns-clause-numbers c =
+    c.loop-at.invariant.numbers ∙ ap (map (number_in c.args.text.now c.args.tokens.now)) (take_all c.loop-at.at c.args.tokens.now c.loop-at-test.false)
+
+pub returns-in_err-firsts : goal.returns-in_err-firsts
+returns-in_err-firsts c =
+    let exit = c.from_residual.ensures in
+    record { numbers = IfOk-from_err _ _ exit.0; firsts = IfOk-from_err _ _ exit.0 }
+
+pub returns-in_err-number : goal.returns-in_err-number
+returns-in_err-number c =
+    let exit = c.from_residual-in_err-number.ensures in
+    record { numbers = IfOk-from_err _ _ exit.0; firsts = IfOk-from_err _ _ exit.0 }
+
+pub returns-in_err-push : goal.returns-in_err-push
+returns-in_err-push c =
+    let exit = c.from_residual-in_err-push.ensures in
+    record { numbers = IfOk-from_err _ _ exit.0; firsts = IfOk-from_err _ _ exit.0 }

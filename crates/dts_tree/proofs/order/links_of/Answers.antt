@@ -1,5 +1,6 @@
 use Rattle.std.proofs.Common.{◌≡◌, ◌+◌, ◌-◌, ◌<◌, sym, ◌∙◌, None, get_or, length, arith, rules}
 use Rattle.std.proofs.lemmas.List.{get_or_read}
+use Rattle.std.proofs.lemmas.Result.{IfOk-from_err}
 use Rattle.dts_tree.proofs.OrderLemmas.{linked_start, linked_more, linked_all, none_each, LinkedFrom}
 use Rattle.dts_tree.proofs.order.links_of.Goals as goal
 
@@ -30,3 +31,9 @@ loop-k-preserved c =
 
 pub returns : goal.returns
 returns c = linked_all c.args.parents.now c.loop-k.first.items c.loop-k.next.items c.loop-k.k c.loop-k-test.false c.loop-k.invariant.low c.loop-k.invariant.linked
+
+pub returns-in_err-first : goal.returns-in_err-first
+returns-in_err-first c = IfOk-from_err _ _ c.from_residual.ensures.0
+
+pub returns-in_err-next : goal.returns-in_err-next
+returns-in_err-next c = IfOk-from_err _ _ c.from_residual-in_err-next.ensures.0

@@ -1,5 +1,6 @@
 use Rattle.std.proofs.Common.{◌≡◌, ◌∷◌, ◌++◌, ◌∙◌, ◌<◌, ap, [], List, ℕ, None, length, reverse, arith}
 use Rattle.std.proofs.lemmas.List.{get_or_read}
+use Rattle.std.proofs.lemmas.Result.{IfOk-from_err}
 use Rattle.dts_tree.specs.Order.{listed, first_of, children_from, siblings_after, in_tree_order, Linked}
 use Rattle.dts_tree.proofs.OrderLemmas.{all_below-append, pending-step, inside-step, reverse-puts, pending-root, walk-left, reverse-taken, waits_after}
 use Rattle.dts_tree.proofs.order.tree_order.Goals as goal
@@ -39,3 +40,40 @@ loop-node-smaller c =
     let taken = reverse-taken c.loop-node.waiting.items c.pop.new.self.items c.in-Some.node c.in-Some.ensures.items in
     let step = pending-step c.args.parents.now c.in-Some.node (reverse c.pop.new.self.items) c.requires.earlier c.requires.some in
     rw (taken, waits c) (omega (arith, ap length step))
+
+pub index-requires : goal.index-requires
+index-requires c =
+    let taken = reverse-taken c.loop-node.waiting.items c.pop.new.self.items c.in-Some.node c.in-Some.ensures.items in
+    let linked : Linked c.args.parents.now c.in_ok-links.links.first.items c.in_ok-links.links.next.items = c.in_ok-links.ensures in
+    omega (arith, (rw taken at c.loop-node.invariant.inside).0, linked.nexts, c.in_ok-links.links.next.ok.0)
+
+pub index-requires-in-Some : goal.index-requires-in-Some
+index-requires-in-Some c =
+    let taken = reverse-taken c.loop-node.waiting.items c.pop.new.self.items c.in-Some.node c.in-Some.ensures.items in
+    let linked : Linked c.args.parents.now c.in_ok-links.links.first.items c.in_ok-links.links.next.items = c.in_ok-links.ensures in
+    omega (arith, (rw taken at c.loop-node.invariant.inside).0, linked.firsts, c.in_ok-links.links.first.ok.0)
+
+pub returns-in_err-links : goal.returns-in_err-links
+returns-in_err-links c =
+    let exit = c.from_residual.ensures in
+    record { order = IfOk-from_err _ _ exit.0; inside = IfOk-from_err _ _ exit.0 }
+
+pub returns-in_err-push : goal.returns-in_err-push
+returns-in_err-push c =
+    let exit = c.from_residual-in_err-push.ensures in
+    record { order = IfOk-from_err _ _ exit.0; inside = IfOk-from_err _ _ exit.0 }
+
+pub returns-in_err-push-2 : goal.returns-in_err-push-2
+returns-in_err-push-2 c =
+    let exit = c.from_residual-in_err-push-2.ensures in
+    record { order = IfOk-from_err _ _ exit.0; inside = IfOk-from_err _ _ exit.0 }
+
+pub returns-in_err-put : goal.returns-in_err-put
+returns-in_err-put c =
+    let exit = c.from_residual-in_err-put.ensures in
+    record { order = IfOk-from_err _ _ exit.0; inside = IfOk-from_err _ _ exit.0 }
+
+pub returns-in_err-put-2 : goal.returns-in_err-put-2
+returns-in_err-put-2 c =
+    let exit = c.from_residual-in_err-put-2.ensures in
+    record { order = IfOk-from_err _ _ exit.0; inside = IfOk-from_err _ _ exit.0 }

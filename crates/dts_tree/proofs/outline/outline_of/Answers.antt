@@ -2,6 +2,7 @@ use Rattle.std.proofs.Common.{◌≡◌, ◌∙◌, length, take, refl, sym, sub
 use Rattle.std.proofs.lemmas.List.{take_all, length-append}
 use Rattle.dts_lex.specs.declared.token.Token.{Token}
 use Rattle.dts_lex.specs.declared.token.Kind.TheVariants as kind
+use Rattle.std.proofs.lemmas.Result.{IfOk-from_err}
 use Rattle.dts_tree.specs.Outline.{list_of}
 use Rattle.dts_tree.proofs.OutlineLemmas.{ReadTo, SpansRise-count, SpansRise-at, read_tells, read_whole, read_short, step_more, step_wrong, steps_more, steps_wider}
 use Rattle.dts_tree.proofs.outline.outline_of.Goals as goal
@@ -64,3 +65,12 @@ returns-clause-outline c =
 
 pub returns-clause-within : goal.returns-clause-within
 returns-clause-within c = steps_wider c.loop-at.at (length c.args.tokens.now) (omega arith) c.loop-at.steps c.loop-at.invariant.steps
+
+pub returns-in_err-tell : goal.returns-in_err-tell
+returns-in_err-tell c =
+    let exit = c.from_residual.ensures in
+    record {
+      outline = IfOk-from_err _ _ exit.0;
+      within = IfOk-from_err _ _ exit.0;
+      few = IfOk-from_err _ _ exit.0;
+    }

@@ -1,6 +1,7 @@
 use Rattle.std.proofs.Common.{◌+◌, ◌∙◌, ap, sym, arith, length, drop, get_or, nat_eq}
 use Rattle.std.proofs.lemmas.List.{drop_more, drop_all}
-use Rattle.std.proofs.lemmas.Result.{err_from_is_err_and}
+use Rattle.std.proofs.lemmas.Result.{err_from_is_err_and, IfOk-from_err}
+use Rattle.dts_tree.proofs.ExitLemmas.{unless_memory}
 use Rattle.dts_tree.specs.declared.said.Said.TheVariants.{Label}
 use Rattle.dts_tree.specs.Reading.{walked}
 use Rattle.dts_tree.specs.Reader.{reading}
@@ -46,3 +47,12 @@ returns-clause-ok c =
     sym c.loop-said.invariant.rest
     ∙ (ap (walked nat_eq (reading c.loop-said.reader)) (drop_all c.loop-said.said-index c.args.steps.now c.loop-said-test.false)
     ∙ walked-end nat_eq (reading c.loop-said.reader))
+
+pub returns-in_err-reader : goal.returns-in_err-reader
+returns-in_err-reader c =
+    let exit = c.from_residual.ensures in
+    record {
+      standing = IfOk-from_err _ _ exit.0;
+      ok = IfOk-from_err _ _ exit.0;
+      fault = unless_memory _ _ exit.1;
+    }

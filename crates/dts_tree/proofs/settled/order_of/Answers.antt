@@ -1,5 +1,5 @@
 use Rattle.std.proofs.Common.{◌∙◌, ap, map, length}
-use Rattle.std.proofs.lemmas.Result.{IfOk-weaker}
+use Rattle.std.proofs.lemmas.Result.{IfOk-weaker, IfOk-from_err}
 use Rattle.dts_tree.specs.Reader.{path_at}
 use Rattle.dts_tree.specs.Order.{in_tree_order}
 use Rattle.dts_tree.proofs.ShapeLemmas.{order-paths}
@@ -16,3 +16,8 @@ pub returns-clause-inside : goal.returns-clause-inside
 returns-clause-inside c =
     let long = ap length c.as_slice.ensures.value ∙ c.in_ok-parents.ensures.long in
     IfOk-weaker c.tree_order.result _ _ (λ order h. rw (← long) h) c.tree_order.ensures.inside
+
+pub returns-in_err-parents : goal.returns-in_err-parents
+returns-in_err-parents c =
+    let exit = c.from_residual.ensures in
+    record { order = IfOk-from_err _ _ exit.0; inside = IfOk-from_err _ _ exit.0 }

@@ -1,5 +1,6 @@
 use Rattle.std.proofs.Common.{◌≡◌, ◌∙◌, ◌+◌, ◌++◌, ◌∷◌, [], List, ℕ, length, ap, arith}
 use Rattle.std.proofs.lemmas.List.{length_push}
+use Rattle.std.proofs.lemmas.Result.{IfOk-from_err}
 use Rattle.dts_tree.proofs.SettledLemmas.{parents-start, parents-more, parents-whole}
 use Rattle.dts_tree.proofs.settled.parents_of.Goals as goal
 
@@ -37,3 +38,9 @@ returns c =
     let h = c.loop-node.invariant in
     let whole : c.loop-node.node ≡ length c.args.nodes.now = omega arith in
     parents-whole c.args.nodes.now c.loop-node.parents.items c.loop-node.node h.long whole c.len-count.ensures.root h.parents
+
+pub returns-in_err-push : goal.returns-in_err-push
+returns-in_err-push c = IfOk-from_err _ _ c.from_residual.ensures.0
+
+pub returns-in_err-push-2 : goal.returns-in_err-push-2
+returns-in_err-push-2 c = IfOk-from_err _ _ c.from_residual-in_err-push-2.ensures.0

@@ -1,5 +1,6 @@
 use Rattle.std.proofs.Common.{◌∙◌, sym, length, ap, arith, nat_eq}
-use Rattle.std.proofs.lemmas.Result.{IfOk-weaker, IfErr-weaker}
+use Rattle.std.proofs.lemmas.Result.{IfOk-weaker, IfErr-weaker, IfOk-from_err}
+use Rattle.dts_tree.proofs.ExitLemmas.{unless_memory}
 use Rattle.dts_tree.specs.Reading.{nothing_read, walked}
 use Rattle.dts_tree.proofs.text_reading.read_steps.Goals as goal
 
@@ -17,3 +18,12 @@ returns-clause-fault c =
     IfErr-weaker c.read.result _ _
     (λ fault is other text named. ap (walked nat_eq nothing_read) (sym (c.as_slice.ensures.value ∙ c.in_ok-said.ensures.said text named)) ∙ is other)
     c.read.ensures.fault
+
+pub returns-in_err-said : goal.returns-in_err-said
+returns-in_err-said c =
+    let exit = c.from_residual.ensures in
+    record {
+      standing = IfOk-from_err _ _ exit.0;
+      ok = IfOk-from_err _ _ exit.0;
+      fault = unless_memory _ _ exit.1;
+    }

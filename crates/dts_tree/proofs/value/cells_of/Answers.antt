@@ -1,6 +1,7 @@
 use Rattle.std.proofs.Common.{◌≡◌, ◌∙◌, refl, sym, true, false, arith}
 use Rattle.dts_lex.specs.declared.token.Token.{Token}
 use Rattle.dts_lex.specs.declared.token.Kind.TheVariants as kind
+use Rattle.std.proofs.lemmas.Result.{IfOk-from_err}
 use Rattle.dts_tree.specs.Value.{is_less}
 use Rattle.dts_tree.proofs.ValueLemmas.{begins_more, parts_more, part_fails, cells_pushed, no_cells}
 use Rattle.dts_tree.proofs.value.cells_of.Goals as goal
@@ -34,3 +35,6 @@ loop-at-preserved c =
           ]);
       cells = cells_pushed c.args.text.now c.args.value.now c.loop-at.at blank c.loop-at.cells.items c.push_some.new.items.items c.cell_of.result c.loop-at-test.true c.in_ok-push_some.ensures now.cells c.cell_of.ensures;
     }
+
+pub returns-in_err-push_some : goal.returns-in_err-push_some
+returns-in_err-push_some c = IfOk-from_err _ _ c.from_residual.ensures.0

@@ -1,6 +1,7 @@
 use Rattle.std.proofs.Common.{◌≡◌, ◌∙◌, ap, refl, sym, map, true, false, arith}
 use Rattle.dts_lex.specs.declared.token.Token.{Token}
 use Rattle.dts_lex.specs.declared.token.Kind.TheVariants as kind
+use Rattle.std.proofs.lemmas.Result.{IfOk-from_err}
 use Rattle.dts_tree.specs.Value.{is_text}
 use Rattle.dts_tree.proofs.ValueLemmas.{begins_more, parts_more, part_fails, map_push, strings_more, no_strings}
 use Rattle.dts_tree.proofs.value.strings_of.Goals as goal
@@ -35,3 +36,9 @@ loop-at-preserved c =
       strings = ap (map (λ s. s.items)) c.in_ok-push_some.ensures ∙ map_push (λ s. s.items) c.loop-at.strings.items c.in_ok-string.string _ _ now.strings c.in_ok-string.ensures
           ∙ sym (strings_more c.args.text.now c.args.value.now c.loop-at.at blank c.loop-at-test.true);
     }
+
+pub returns-in_err-string : goal.returns-in_err-string
+returns-in_err-string c = IfOk-from_err _ _ c.from_residual.ensures.0
+
+pub returns-in_err-push_some : goal.returns-in_err-push_some
+returns-in_err-push_some c = IfOk-from_err _ _ c.from_residual-in_err-push_some.ensures.0

@@ -1,6 +1,8 @@
 use Rattle.std.proofs.Common.{◌<◌, ◌∙◌, ◌∷◌, [], ap, sym, length, nat_eq, refl}
 use Rattle.std.proofs.lemmas.List.{reverse-append}
 use Rattle.std.specs.Option.{option_map}
+use Rattle.std.proofs.lemmas.Result.{IfOk-from_err}
+use Rattle.dts_tree.proofs.ExitLemmas.{unless_memory}
 use Rattle.dts_tree.specs.Reading.{added}
 use Rattle.dts_tree.specs.Reader.{reading, path_at}
 use Rattle.dts_tree.proofs.ReaderLemmas.{lookup-labels, lookup-below}
@@ -32,3 +34,13 @@ returns-clause-ok c =
     let self = c.args.self.now in
     ap (added nat_eq (reading self) c.args.at) (lookup-labels self.nodes c.args.label self.labels.entries ∙ ap (option_map (path_at self.nodes)) (sym c.in-Some.ensures.value))
     ∙ rw (c.in_ok-push.ensures.items, reverse-append self.bodies.items (c.in-Some.node.now ∷ [])) refl
+
+pub returns-in_err-push : goal.returns-in_err-push
+returns-in_err-push c =
+    let exit = c.from_residual.ensures in
+    record {
+      standing = IfOk-from_err _ _ exit.0;
+      ok = IfOk-from_err _ _ exit.0;
+      fault = unless_memory _ _ exit.1;
+      nodes = refl;
+    }

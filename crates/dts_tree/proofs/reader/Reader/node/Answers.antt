@@ -1,6 +1,7 @@
 use Rattle.std.proofs.Common.{◌≡◌, ◌<◌, ◌≤◌, ◌∷◌, ◌∙◌, [], List, ℕ, Some, None, Err, Ok, ap, sym, get_or, length, map, nat_eq, arith}
 use Rattle.std.proofs.lemmas.Bool.{cond-true, cond-false, le-leb, lt-leb}
-use Rattle.std.proofs.lemmas.Result.{on_ok_weaker}
+use Rattle.std.proofs.lemmas.Result.{on_ok_weaker, IfOk-from_err}
+use Rattle.dts_tree.proofs.ExitLemmas.{unless_memory}
 use Rattle.dts_tree.specs.Reading.{elsewhere, node_opened, opened}
 use Rattle.dts_tree.specs.Reader.{reading, label_at}
 use Rattle.dts_tree.specs.declared.fault.TreeFault.TheVariants.{TooDeep}
@@ -68,3 +69,20 @@ returns-clause-ok c =
     ap (node_opened nat_eq (reading self) path c.args.at) is
     ∙ (cond-true _ (Ok (opened nat_eq (reading self) path c.args.at)) (Err (TooDeep c.args.at)) (le-leb (length path) 32 short)
     ∙ ap Ok (sym (d ∙ opened-grown self new path k c.requires.standing g c.args.at c.in_ok-node.ensures.ok)))) c.open.ensures.ok)
+
+pub returns-clause-count : goal.returns-clause-count
+returns-clause-count c =
+    let self = c.args.self.now in
+    let new = c.child.new.self in
+    let path : List ℕ = c.args.name ∷ get_or self.nodes c.here-parent.result [] in
+    on_ok_weaker c.open.result (λ _. omega (arith, ap length c.open.ensures.nodes, (grown self.nodes new path c.in_ok-node.node c.in_ok-node.ensures.ok c.in_ok-node.ensures.number).count)) c.open.ensures.standing
+
+pub returns-in_err-node : goal.returns-in_err-node
+returns-in_err-node c =
+    let exit = c.from_residual.ensures in
+    record {
+      standing = IfOk-from_err _ _ exit.0;
+      ok = IfOk-from_err _ _ exit.0;
+      fault = unless_memory _ _ exit.1;
+      count = IfOk-from_err _ _ exit.0;
+    }

@@ -1,5 +1,7 @@
-use Rattle.std.proofs.Common.{◌≡◌, ◌∷◌, ◌∙◌, [], ap, length}
+use Rattle.std.proofs.Common.{◌≡◌, ◌∷◌, ◌∙◌, [], ap, length, refl}
 use Rattle.std.proofs.lemmas.List.{reverse-append}
+use Rattle.std.proofs.lemmas.Result.{IfOk-from_err}
+use Rattle.dts_tree.proofs.ExitLemmas.{at_memory}
 use Rattle.dts_tree.specs.Reader.{node_of, with_labels_at}
 use Rattle.dts_tree.proofs.ReaderLemmas.{all_below-push, put-below, open-reading}
 use Rattle.dts_tree.proofs.reader.Reader.open.Goals as goal
@@ -25,3 +27,33 @@ returns-clause-ok c =
     open-reading self.nodes self.bodies.items self.labels.entries self.waiting.items self.settings.items c.args.node c.args.at c.requires.inside
     c.push-2.new.self.items c.put_labels.new.labels.entries c.clear.new.self.items c.push.new.self.items
     c.in_ok-push-2.ensures.items (labels c) c.clear.ensures.items c.in_ok-push.ensures.items
+
+pub returns-in_err-put_labels : goal.returns-in_err-put_labels
+returns-in_err-put_labels c =
+    let exit = c.from_residual.ensures in
+    record {
+      standing = IfOk-from_err _ _ exit.0;
+      ok = IfOk-from_err _ _ exit.0;
+      fault = at_memory _ exit.1;
+      nodes = refl;
+    }
+
+pub returns-in_err-push : goal.returns-in_err-push
+returns-in_err-push c =
+    let exit = c.from_residual-in_err-push.ensures in
+    record {
+      standing = IfOk-from_err _ _ exit.0;
+      ok = IfOk-from_err _ _ exit.0;
+      fault = at_memory _ exit.1;
+      nodes = refl;
+    }
+
+pub returns-in_err-push-2 : goal.returns-in_err-push-2
+returns-in_err-push-2 c =
+    let exit = c.from_residual-in_err-push-2.ensures in
+    record {
+      standing = IfOk-from_err _ _ exit.0;
+      ok = IfOk-from_err _ _ exit.0;
+      fault = at_memory _ exit.1;
+      nodes = refl;
+    }

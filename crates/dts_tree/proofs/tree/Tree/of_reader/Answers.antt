@@ -1,4 +1,6 @@
 use Rattle.std.proofs.Common.{[], ◌∙◌, ap, length, nat_eq}
+use Rattle.std.proofs.lemmas.Result.{IfOk-from_err}
+use Rattle.dts_tree.proofs.ExitLemmas.{passed_on}
 use Rattle.dts_tree.specs.Settled.{values_of}
 use Rattle.dts_tree.proofs.SettleLemmas.{settled-tree}
 use Rattle.dts_tree.proofs.TreeLookLemmas.{below_values}
@@ -30,3 +32,8 @@ returns-clause-tree c =
     let settings = c.as_slice.ensures.value in
     settled-tree c.args.text c.args.tokens reader layout.order layout.places layout.values.entries
     c.requires.standing c.requires.bytes c.apart.ensures h.order h.inside (rw settings at h.placed) (h.values ∙ ap (values_of nat_eq nat_eq) settings)
+
+pub returns-in_err-layout : goal.returns-in_err-layout
+returns-in_err-layout c =
+    let exit = c.from_residual.ensures in
+    record { tree = IfOk-from_err _ _ exit.0; fault = passed_on _ _ c.in_err-layout.field-0.0 exit.1 c.in_err-layout.ensures.fault }

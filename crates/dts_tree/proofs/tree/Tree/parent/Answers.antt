@@ -40,3 +40,10 @@ returns c =
     ap (λ xs. Some (get_or xs p 0)) c.as_slice-2.ensures
     ∙ (ap Some (rank ∙ sym (tree-parent t.text t.tokens t.nodes t.order t.places t.labels.entries t.values.entries c.args.self.now c.self.view_is p c.self.invariant.bytes c.key-parent.ensures.apart c.self.invariant.inside inside_p))
     ∙ sym (ap (parent_among c.args.self.now.nodes) child))
+
+pub bounds-as_slice-parent : goal.bounds-as_slice-parent
+bounds-as_slice-parent c =
+    let t = c.self.inside in
+    let inside : c.args.node < length t.order = tree-inside t.text t.tokens t.nodes t.order t.places t.labels.entries t.values.entries c.args.self.now c.self.view_is c.args.node c.requires in
+    let below : get_or c.as_slice.result.now c.args.node 0 < length t.nodes = rw c.as_slice.ensures (below-at (length t.nodes) t.order c.args.node c.self.invariant.inside inside) in
+    rw c.as_slice-2.ensures (omega (arith, below, c.key-parent.ensures.earlier, c.self.invariant.long_ranks))

@@ -1,0 +1,18 @@
+-- What the exit of a `?` says of its error.
+use Rattle.std.proofs.Common.{◌≡◌, ◌≢◌, Result, refl}
+use Rattle.std.specs.Result.{IsErrAnd, IfErr, OnErr}
+use Rattle.std.proofs.lemmas.Result.{err_from_is_err_and}
+use Rattle.dts_tree.specs.declared.fault.TreeFault.{TreeFault}
+use Rattle.dts_tree.specs.declared.fault.TreeFault.TheVariants.{Memory}
+
+pub passed_on : {T E : Type 0} (r : Result T E) (P : E → Type 0) (e : E) → IsErrAnd r (λ y. y ≡ e) → P e → IfErr r P
+passed_on r P e exit here = let told = err_from_is_err_and r exit in rw (told.1, told.2) here
+
+pub at_exit : {T E : Type 0} (Q : E → Type 0) (r : Result T E) (P : Type 0) → IsErrAnd r Q → P → OnErr r P
+at_exit Q r P exit here = let told = err_from_is_err_and r exit in rw told.1 here
+
+pub at_memory : {T : Type 0} (r : Result T TreeFault) → IsErrAnd r (λ fault. fault ≡ Memory) → IfErr r (λ fault. fault ≡ Memory)
+at_memory r exit = passed_on r (λ fault. fault ≡ Memory) Memory exit refl
+
+pub unless_memory : {T : Type 0} (r : Result T TreeFault) (P : TreeFault → Type 0) → IsErrAnd r (λ fault. fault ≡ Memory) → IfErr r (λ fault. fault ≢ Memory → P fault)
+unless_memory r P exit = passed_on r (λ fault. fault ≢ Memory → P fault) Memory exit (λ other. absurd (other refl))
