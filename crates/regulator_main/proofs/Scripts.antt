@@ -3,12 +3,12 @@ use Rattle.std.proofs.Common.{◌≡◌, ℕ, ◌+◌, ◌<◌, inl, true, cond,
 use Rattle.std.specs.Prelude.{count_by}
 use Rattle.std.proofs.lemmas.Bool.Decides.{nat_tests}
 use Rattle.std.proofs.lemmas.List.{take_more, map-append}
-use Rattle.std.proofs.lemmas.List.Elements.{All-push, filter-append}
+use Rattle.std.proofs.lemmas.List.Elements.{All-nil, All-push, filter-append}
 use Rattle.std.proofs.lemmas.List.Sums.{sum_by-append}
 use Rattle.reg_outside.specs.Count.{RoseBy}
 use Rattle.reg_outside.specs.CountFacts.{RoseBy-zero, RoseBy-trans}
 use Rattle.reg_outside.specs.Told.{with_more}
-use Rattle.reg_outside.specs.ToldFacts.{with_more-with_more}
+use Rattle.reg_outside.specs.ToldFacts.{with_more-nil, with_more-with_more}
 use Rattle.board.specs.declared.board.Board.{Board}
 use Rattle.board.specs.declared.write.Write.{Write}
 use Rattle.plain_board.specs.declared.answer.Answer.{Answer}
@@ -80,6 +80,19 @@ faults_of-push worker line call said rows =
     ap (count_by (λ r. is_fault r.answer)) (rows_of-push worker line call said rows)
     ∙ sum_by-append (λ r. cond (is_fault r.answer) 1 0) (rows_of worker rows) (row_of worker line call said ∷ [])
     ∙ ap (λ n. faults_of worker rows + n) (zero-add (cond (is_fault said) 1 0))
+
+-- a script of no line does nothing
+pub plays_none : (board : Board) (plain : Plain) (worker : ℕ) (told : Option Updates) (count : ℕ) → Law board plain.regs → PlaysScript board plain worker [] [] told told count count
+plays_none board plain worker told count law = record {
+  legal = tt;
+  in_order = refl;
+  keeps = All-nil (λ row. row.writes ≡ []);
+  lawful = law;
+  names = All-nil (λ row. NamesRail board row.call);
+  rails = All-nil (λ row. HasRails board row.answer);
+  moves = sym (with_more-nil told);
+  faults = RoseBy-zero count;
+}
 
 module _ (board : Board) (plain now plain' : Plain) (worker line : ℕ) (call : Call) (said : Answer) (rows : List Row) (told mid told' : Option Updates) (count between count' : ℕ) (is : now ≡ replay board plain rows) (performs : Performs board now plain' worker call said mid told' between count') where
   abbrev the_row : Row

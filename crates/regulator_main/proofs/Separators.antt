@@ -1,5 +1,7 @@
 -- Lists that are cut at a separator.
-use Rattle.std.proofs.Common.{◌≡◌, ◌≢◌, List, [], ◌∷◌, ◌++◌, All, refl}
+use Rattle.std.proofs.Common.{ℕ, ◌≡◌, ◌≢◌, ◌+◌, ◌-◌, ◌<◌, List, [], ◌∷◌, ◌++◌, All, refl, sym, ap, ◌∙◌, arith, length, take, drop, length-drop, length-take}
+use Rattle.std.specs.List.{AllWithin, HoldsAt}
+use Rattle.std.proofs.lemmas.List.{drop_more, get_or-take, take_all, take-append-drop}
 use Rattle.std.proofs.lemmas.List.Elements.{All-head, All-tail}
 
 module _ {X : Type 0} (sep : X) where
@@ -31,3 +33,15 @@ module _ {X : Type 0} (sep : X) where
   goes_on (a ∷ more) b (x ∷ xs) item y lx other same =
       let rest = goes_on more b xs item y (All-tail (λ z. z ≢ sep) x xs lx) other cc in
       (rest.0, cc)
+
+  -- a text that is cut at a separator
+  pub cut_at : (text : List X) (i : ℕ) → i < length text → HoldsAt (λ x. x ≡ sep) text i → text ≡ take i text ++ sep ∷ take (length text - (i + 1)) (drop (i + 1) text)
+  cut_at text i within here =
+      let whole = take_all (length text - (i + 1)) (drop (i + 1) text) (omega (arith, length-drop (i + 1) text)) in
+      sym (take-append-drop i text) ∙ ap (λ rest. take i text ++ rest) (drop_more text i sep within ∙ cc (here sep, whole))
+
+  -- what stands before the first separator lacks it
+  pub before_cut : (text : List X) (i : ℕ) → AllWithin (λ x. x ≢ sep) text 0 i → Lacks (take i text)
+  before_cut text i lacks k d within same =
+      let below : k < i = omega (arith, length-take i text) in
+      lacks k d (omega arith) below (sym (get_or-take i text k d below) ∙ same)
