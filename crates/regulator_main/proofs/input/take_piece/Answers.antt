@@ -1,6 +1,7 @@
 use Rattle.std.proofs.Common.{refl, sym, ◌∙◌, arith, take, length-take, length-take-le}
 use Rattle.std.proofs.lemmas.Result.{err_from_is_err_and}
-use Rattle.regulator_main.proofs.Took.{took_none, spent_by}
+use Rattle.regulator_main.specs.declared.input.InputError.TheVariants.{Failed, Memory}
+use Rattle.regulator_main.proofs.Took.{took_none, spent_by, ok_is_no_failure, memory_is_no_failure}
 use Rattle.regulator_main.proofs.input.take_piece.Goals as goal
 
 pub slice_bounds-extend_from_slice-end : goal.slice_bounds-extend_from_slice-end
@@ -32,7 +33,7 @@ returns-in_err-extend_from_slice g c =
       grown = tt;
       end = tt;
       stopped = (take c.in_ok-n.n c.read.new.buf, omega (arith, length-take c.in_ok-n.n c.read.new.buf, read.within, c.read.auto.buf), read.moved);
-      failed = λ same. absurd cc;
+      failed = λ same. absurd (memory_is_no_failure Memory refl same);
       count = λ other. read.ok_counts_nothing;
     }
 
@@ -45,6 +46,6 @@ returns g c =
       grown = c.in_ok-extend_from_slice.ensures.items;
       end = spent_by _ _ c.in_ok-n.n c.read.new.buf read.moved read.end;
       stopped = tt;
-      failed = λ same. absurd cc;
+      failed = λ same. absurd (ok_is_no_failure _ Failed same);
       count = λ other. read.ok_counts_nothing;
     }
