@@ -1,5 +1,5 @@
 -- A text, one line at a time.
-use Rattle.std.proofs.Common.{ℕ, ◌≡◌, ◌≢◌, ◌-◌, ◌<◌, suc, List, [], ◌∷◌, ◌++◌, length, take, get_or, eqb, Bool, not, true, false, All, sym, refl, ap, ◌∙◌, arith}
+use Rattle.std.proofs.Common.{ℕ, ◌≡◌, ◌≢◌, ◌-◌, ◌<◌, suc, List, [], ◌∷◌, ◌++◌, length, take, get_or, eqb, Bool, not, true, false, All, sym, refl, ap, ◌∙◌, arith, length-append}
 use Rattle.std.specs.List.{join_with_byte}
 use Rattle.std.specs.Cmp.Lexicographic.{pointwise}
 use Rattle.std.proofs.lemmas.Bool.{eqb-true, eqb-false}
@@ -100,3 +100,7 @@ module _ (line text keyword : List ℕ) (is : text ≡ keyword) where
 
   pub is_other : false ≡ pointwise eqb line text → line ≢ keyword
   is_other test same = let wrong = (slice_eq-Decides Decides-eqb line text false test).1 (same ∙ sym is) in absurd cc
+
+-- less is left after a line
+pub shorter : (text line rest : List ℕ) → text ≡ line ++ 10 ∷ rest → length rest < length text
+shorter text line rest cut = omega (arith, ap length cut, length-append line (10 ∷ rest))

@@ -1,8 +1,8 @@
 -- A set of a handle, from its parts.
-use Rattle.std.proofs.Common.{◌≡◌, ℕ, ◌<◌, Bool, true, false, cond, ◌||◌, leb, ltb, eqb, eq-eqb, List, [], ◌∷◌, Option, Some, None, refl, sym, subst, ap, ◌∙◌, filter, length}
+use Rattle.std.proofs.Common.{◌≡◌, ℕ, ◌+◌, ◌<◌, ◌≤◌, Bool, true, false, cond, ◌||◌, leb, ltb, eqb, eq-eqb, List, [], ◌∷◌, Option, Some, None, refl, sym, subst, ap, ◌∙◌, arith, filter, length, length-append}
 use Rattle.std.specs.Prelude.{slice_get, position, All}
 use Rattle.std.specs.List.{list_all}
-use Rattle.std.proofs.lemmas.List.Elements.{All-set, filter_agree}
+use Rattle.std.proofs.lemmas.List.Elements.{All-push, All-set, filter_agree}
 use Rattle.std.proofs.lemmas.List.Quantifiers.{position-Some}
 use Rattle.reg_outside.specs.ToldFacts.{with_more-nil}
 use Rattle.arrayvec.specs.ArrayString.{ArrayString}
@@ -134,3 +134,18 @@ performs_got board plain worker handle (Some grip) told count law is = record { 
 pub performs_get : (board : Board) (plain : Plain) (worker : ℕ) (handle : ArrayString) (said : Answer) (told : Option Updates) (count : ℕ)
     → Law board plain.regs → said ≡ get_on plain (grip_of board plain worker handle.bytes) → Performs board plain plain worker (calls.Get handle) said told told count count
 performs_get board plain worker handle said told count law is = rw is (performs_got board plain worker handle (grip_of board plain worker handle.bytes) told count law refl)
+
+-- the plain board after a handle is opened
+module _ (board : Board) (plain plain' : Plain) (worker : ℕ) (handle : ArrayString) (rail : RailId) (exclusive : Bool) (said : Answer) where
+  pub inv_open : Inv board plain → rail.0 < length board.rails → (said, plain') ≡ opened plain worker handle rail exclusive → Inv board plain'
+  inv_open inv within is =
+      subst (Inv board) (sym (ap (λ (p : Answer × Plain). p.1) is)) (record {
+        law = inv.law;
+        regs = inv.regs;
+        holds = inv.holds;
+        events = inv.events;
+        handles = All-push (λ row. row.0.0 < length board.rails) plain.handles _ inv.handles within;
+      })
+
+pub length-open : (plain plain' : Plain) (worker : ℕ) (handle : ArrayString) (rail : RailId) (exclusive : Bool) (said : Answer) → (said, plain') ≡ opened plain worker handle rail exclusive → length plain'.handles ≤ length plain.handles + 1
+length-open plain plain' worker handle rail exclusive said is = omega (arith, simp length-append at (ap (λ (p : Answer × Plain). length p.1.handles) is))

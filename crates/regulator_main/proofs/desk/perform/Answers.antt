@@ -1,6 +1,6 @@
 use Rattle.std.proofs.Common.{arith}
 use Rattle.std.proofs.lemmas.Result.{IfOk-weaker, on_ok_weaker}
-use Rattle.regulator_main.proofs.Set.{performs_open, performs_get}
+use Rattle.regulator_main.proofs.Set.{performs_open, performs_get, inv_open, length-open}
 use Rattle.regulator_main.proofs.desk.perform.Goals as goal
 
 pub set-requires : goal.set-requires
@@ -28,3 +28,15 @@ returns-in-Get g c = record {
   inv = c.requires.inv;
   handles = omega arith;
 }
+
+pub returns-in-Open-clause-inv : goal.returns-in-Open-clause-inv
+returns-in-Open-clause-inv g c =
+    IfOk-weaker c.open.result _ _
+    (λ said is. inv_open c.args.board.now c.args.plain.now c.open.new.plain c.args.worker c.in-Open.handle c.in-Open.rail c.in-Open.exclusive said c.requires.inv (rw c.in-Open.is at c.requires.rail) is)
+    c.open.ensures.ok
+
+pub returns-in-Open-clause-handles : goal.returns-in-Open-clause-handles
+returns-in-Open-clause-handles g c =
+    IfOk-weaker c.open.result _ _
+    (λ said is. length-open c.args.plain.now c.open.new.plain c.args.worker c.in-Open.handle c.in-Open.rail c.in-Open.exclusive said is)
+    c.open.ensures.ok

@@ -6,7 +6,7 @@ use Rattle.regulator_main.specs.Reading.{before_calls, IsFaultOf}
 use Rattle.regulator_main.specs.Session.{AreSession}
 use Rattle.regulator_main.proofs.AfterWorker.{call_last, call_here, call_read}
 use Rattle.regulator_main.proofs.Leaves.{fault_of, passes, so_far}
-use Rattle.regulator_main.proofs.LineLaws.{is_line, is_other}
+use Rattle.regulator_main.proofs.LineLaws.{is_line, is_other, shorter}
 use Rattle.regulator_main.proofs.WorkerPlaces.{lines_in, call_refused, many_refused}
 use Rattle.regulator_main.proofs.session.read_script.Goals as goal
 
@@ -59,3 +59,6 @@ pub returns-in_err-push-clause-fault : goal.returns-in_err-push-clause-fault
 returns-in_err-push-clause-fault c =
     let exit = err_from_is_err_and c.from_residual.result c.from_residual.ensures.1 in
     rw exit.1 (λ other. absurd (other exit.2))
+
+pub lines-smaller : goal.lines-smaller
+lines-smaller c = shorter c.lines.rest.now c.in-Some.line.now c.in-Some.more.now c.in-Some.ensures.parts

@@ -6,6 +6,7 @@ use Rattle.regulator_main.proofs.Frames.{worker_line, done_line}
 use Rattle.regulator_main.proofs.Leaves.{fault_of, leaves_here, leaves_last, leaves_more, passes}
 use Rattle.regulator_main.proofs.LineLaws.{empty_by, filled_by, is_line, is_other}
 use Rattle.regulator_main.proofs.Places.{begins_workers, begins_done, no_worker, workers_end, workers_refused, setup_refused, done_refused}
+use Rattle.regulator_main.proofs.Sole.{not_true}
 use Rattle.regulator_main.proofs.session.read_workers.Goals as goal
 
 pub returns-in_default-clause-fault : goal.returns-in_default-clause-fault
@@ -34,4 +35,4 @@ returns-then-is_setup-clause-fault c =
 
 pub returns-clause-fault : goal.returns-clause-fault
 returns-clause-fault c =
-    fault_of c.fault-2.ensures (leaves_here c.args.text.now c.in-Some.line.now c.in-Some.rest.now c.in-Some.ensures.parts c.in-Some.ensures.first before_workers BadSession 3 begins_workers (workers_refused c.in-Some.line.now (is_other c.in-Some.line.now _ worker_line c.as_slice.ensures c.if-eq.ensures) (is_other c.in-Some.line.now _ done_line c.as_slice-2.ensures c.if-eq-2.ensures) (λ setup. let no = c.if-is_setup.ensures.1 setup in absurd cc)) (omega arith))
+    fault_of c.fault-2.ensures (leaves_here c.args.text.now c.in-Some.line.now c.in-Some.rest.now c.in-Some.ensures.parts c.in-Some.ensures.first before_workers BadSession 3 begins_workers (workers_refused c.in-Some.line.now (is_other c.in-Some.line.now _ worker_line c.as_slice.ensures c.if-eq.ensures) (is_other c.in-Some.line.now _ done_line c.as_slice-2.ensures c.if-eq-2.ensures) (λ setup. not_true (c.if-is_setup.ensures.1 setup))) (omega arith))
