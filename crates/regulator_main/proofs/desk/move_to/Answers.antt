@@ -1,6 +1,5 @@
 use Rattle.std.proofs.Common.{◌≡◌, ◌<◌, Some, length, subst, sym, ap, ◌∙◌}
 use Rattle.std.specs.Prelude.{All}
-use Rattle.std.proofs.lemmas.Result.{IfOk-from_err}
 use Rattle.ramp_delay.specs.Times.{time_of}
 use Rattle.board.specs.Rail.{uv}
 use Rattle.plain_board.specs.Answer.{Grip, changed, kept_request, with_request}
@@ -35,12 +34,6 @@ returns-in_ok-changed-in-Err-clause-moves g c =
 
 pub settle-requires : goal.settle-requires
 settle-requires g c = record { place = c.requires.rail; sound = c.requires.sound; allowed = c.requires.allowed; lawful = c.requires.lawful }
-
-pub returns-in_err-changed-in-Err : goal.returns-in_err-changed-in-Err
-returns-in_err-changed-in-Err g c = record {
-  moves = IfOk-from_err _ _ c.from_residual.ensures.0;
-  same = IfOk-from_err _ _ c.from_residual.ensures.0;
-}
 
 pub returns-in-Ok : goal.returns-in-Ok
 returns-in-Ok g c =

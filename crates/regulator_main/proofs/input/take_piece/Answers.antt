@@ -1,4 +1,4 @@
-use Rattle.std.proofs.Common.{refl, sym, ◌∙◌, arith, take, length-take, length-take-le}
+use Rattle.std.proofs.Common.{refl, sym, arith, take, length-take, length-take-le}
 use Rattle.std.proofs.lemmas.Result.{err_from_is_err_and}
 use Rattle.regulator_main.specs.declared.input.InputError.TheVariants.{Failed, Memory}
 use Rattle.regulator_main.proofs.Took.{took_none, spent_by, ok_is_no_failure, memory_is_no_failure}

@@ -1,4 +1,5 @@
 use Rattle.std.proofs.Common.{◌≡◌, ◌∷◌, [], arith, rules}
+use Rattle.std.proofs.lemmas.Result.{IfOk-from_err, err_from_is_err_and}
 use Rattle.regulator_main.specs.declared.fault.SessionKind.TheVariants.{BadSession, NotYet}
 use Rattle.regulator_main.proofs.AfterWorker.{after_last, after_here, done_more, done_session}
 use Rattle.regulator_main.proofs.Frames.{worker_line, done_line}
@@ -27,3 +28,11 @@ pub returns-clause-session : goal.returns-clause-session
 returns-clause-session c =
     let pushed : c.push.new.self.items ≡ c.args.script ∷ [] = search rules in
     rw pushed (done_session c.args.script c.requires.sound c.requires.short c.args.text.now c.in-Some.line.now c.in-Some.rest.now c.in-Some.ensures.parts c.in-Some.ensures.first (is_line c.in-Some.line.now _ done_line c.as_slice-2.ensures (turned _ _ c.if-ne.ensures)) (empty_by c.in-Some.rest.now c.if-not-is_empty.ensures))
+
+pub returns-in_err-map_err-clause-fault : goal.returns-in_err-map_err-clause-fault
+returns-in_err-map_err-clause-fault c =
+    let exit = err_from_is_err_and c.from_residual.result c.from_residual.ensures.1 in
+    rw exit.1 (λ other. absurd (other exit.2))
+
+pub returns-in_err-map_err-clause-session : goal.returns-in_err-map_err-clause-session
+returns-in_err-map_err-clause-session c = IfOk-from_err _ _ c.from_residual.ensures.0

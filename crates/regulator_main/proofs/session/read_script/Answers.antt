@@ -1,7 +1,7 @@
 use Rattle.std.proofs.Common.{◌∷◌, [], ◌++◌, refl, arith, IfOk, IfErr, length-append}
 use Rattle.std.proofs.lemmas.Result.{IfOk-from_err, err_from_is_err_and}
 use Rattle.regulator_main.specs.declared.fault.SessionKind.TheVariants.{NotYet, TooManyLines}
-use Rattle.regulator_main.specs.Frame.{end_line, call_line}
+use Rattle.regulator_main.specs.Frame.{end_line}
 use Rattle.regulator_main.specs.Reading.{before_calls, IsFaultOf}
 use Rattle.regulator_main.specs.Session.{AreSession}
 use Rattle.regulator_main.proofs.AfterWorker.{call_last, call_here, call_read}

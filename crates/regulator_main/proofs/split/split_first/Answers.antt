@@ -1,4 +1,4 @@
-use Rattle.std.proofs.Common.{ℕ, ◌≡◌, ◌≢◌, ◌<◌, rules, tests, arith, length, take, MatchOption, length-take-le}
+use Rattle.std.proofs.Common.{ℕ, ◌≡◌, ◌≢◌, ◌<◌, rules, tests, arith, length, MatchOption, length-take-le}
 use Rattle.std.specs.List.{AllWithin, HoldsAt}
 use Rattle.std.proofs.lemmas.Iterator.{YieldsList-from_slice, IsFirst-from_position}
 use Rattle.std.proofs.lemmas.List.Elements.{All-from_all_within}
