@@ -1,13 +1,13 @@
 -- Which lines can follow which in a session.
-use Rattle.std.proofs.Common.{ℕ, ◌≡◌, ◌≢◌, List, [], ◌∷◌, ◌++◌, map, codes, All, true, false, sym, refl, ap, ◌∙◌, arith, append_assoc, eqb, get_or}
+use Rattle.std.proofs.Common.{ℕ, ◌≡◌, ◌≢◌, List, [], ◌∷◌, ◌++◌, map, codes, All, true, false, sym, refl, ap, ◌∙◌, append_assoc, eqb, get_or}
 use Rattle.std.specs.List.{flat_map}
-use Rattle.std.proofs.lemmas.Bool.Decides.{nat_tests}
+use Rattle.std.proofs.lemmas.Bool.{eqb-false}
 use Rattle.std.proofs.lemmas.List.Elements.{All-head, All-map}
 use Rattle.plain_board.specs.declared.call.Call.{Call}
 use Rattle.plain_board.specs.declared.call.Call.TheVariants.{Open, Set, Get}
 use Rattle.regulator_main.specs.Frame.{Setup, Register, Refusal, setup_text, IsSetup, BoardPart, Demo, Text, end_line, board_lines, worker_lines, HasNoEnd, call_line}
 use Rattle.regulator_main.proofs.SetupLines.{IsSetupLine}
-use Rattle.regulator_main.proofs.Separators.{split_once}
+use Rattle.regulator_main.proofs.Separators.{head_is, tail_is, split_once}
 
 abbrev pub first_line : List ℕ
 first_line = codes "%session 1"
@@ -30,9 +30,7 @@ after_board setup workers = map setup_text setup ++ (flat_map worker_lines worke
 
 -- two texts that differ at a place
 pub differ_at : (at : ℕ) (xs ys : List ℕ) → eqb (get_or xs at 0) (get_or ys at 0) ≡ false → xs ≢ ys
-differ_at at xs ys apart same =
-    let there : get_or xs at 0 ≡ get_or ys at 0 = ap (λ zs. get_or zs at 0) same in
-    grind (arith, nat_tests)
+differ_at at xs ys apart same = eqb-false (get_or xs at 0) (get_or ys at 0) apart (ap (λ zs. get_or zs at 0) same)
 
 -- the lines that stand between the keywords differ from them
 pub call-≢-end : (call : Call) → call_line call ≢ end_line
@@ -55,12 +53,12 @@ HasNoEnd-calls calls = All-map (λ line. line ≢ end_line) call_line calls (λ 
 
 -- the board of lines that begin with the demo board is that
 pub demo_only : (board : BoardPart) (rest more : List (List ℕ)) → board_lines board ++ rest ≡ demo_line ∷ more → rest ≡ more
-demo_only Demo rest more same = cc
-demo_only (Text lines) rest more same = absurd cc
+demo_only Demo rest more same = tail_is same
+demo_only (Text lines) rest more same = absurd (differ_at 8 dts_line demo_line refl (head_is same))
 
 pub not_board : (board : BoardPart) (rest : List (List ℕ)) (line : List ℕ) (more : List (List ℕ)) → line ≢ demo_line → line ≢ dts_line → board_lines board ++ rest ≡ line ∷ more → ⊥
-not_board Demo rest line more not_demo not_dts same = not_demo cc
-not_board (Text lines) rest line more not_demo not_dts same = not_dts cc
+not_board Demo rest line more not_demo not_dts same = not_demo (sym (head_is same))
+not_board (Text lines) rest line more not_demo not_dts same = not_dts (sym (head_is same))
 
 -- a worker's lines, and what follows them
 pub worker-assoc : (calls rest more : List (List ℕ)) → (worker_lines calls ++ rest) ++ more ≡ worker_line ∷ (calls ++ end_line ∷ (rest ++ more))
@@ -69,37 +67,37 @@ worker-assoc calls rest more =
 
 -- after the board comes a setup line, a worker or the end
 pub after_board_line : (setup : List Setup) (workers : List (List (List ℕ))) (line : List ℕ) (more : List (List ℕ)) → All IsSetup setup → line ≢ worker_line → line ≢ done_line → (IsSetupLine line → ⊥) → after_board setup workers ≡ line ∷ more → ⊥
-after_board_line [] [] line more sound not_worker not_done not_setup same = not_done cc
-after_board_line [] (w ∷ workers) line more sound not_worker not_done not_setup same = not_worker cc
+after_board_line [] [] line more sound not_worker not_done not_setup same = not_done (sym (head_is same))
+after_board_line [] (w ∷ workers) line more sound not_worker not_done not_setup same = not_worker (sym (head_is same))
 after_board_line (s ∷ setup) workers line more sound not_worker not_done not_setup same =
-    not_setup (s, All-head IsSetup s setup sound, cc)
+    not_setup (s, All-head IsSetup s setup sound, sym (head_is same))
 
 -- after `%done` comes nothing
 pub after_board_done : (setup : List Setup) (workers : List (List (List ℕ))) (line : List ℕ) (more : List (List ℕ)) → after_board setup workers ≡ done_line ∷ line ∷ more → ⊥
 after_board_done [] [] line more same = cc
-after_board_done [] (w ∷ workers) line more same = cc
-after_board_done (s ∷ setup) workers line more same = setup-≢-done s cc
+after_board_done [] (w ∷ workers) line more same = differ_at 1 worker_line done_line refl (head_is same)
+after_board_done (s ∷ setup) workers line more same = setup-≢-done s (head_is same)
 
 -- the lines after a worker's
 pub workers_after : (setup : List Setup) (workers : List (List (List ℕ))) (calls more : List (List ℕ)) → All HasNoEnd workers → HasNoEnd calls → after_board setup workers ≡ worker_line ∷ (calls ++ end_line ∷ more) → (others : List (List (List ℕ))) × (flat_map worker_lines others ++ done_line ∷ [] ≡ more)
-workers_after (s ∷ setup) workers calls more ends no_end same = absurd (setup-≢-worker s cc)
-workers_after [] [] calls more ends no_end same = absurd cc
+workers_after (s ∷ setup) workers calls more ends no_end same = absurd (setup-≢-worker s (head_is same))
+workers_after [] [] calls more ends no_end same = absurd (differ_at 1 done_line worker_line refl (head_is same))
 workers_after [] (w ∷ workers) calls more ends no_end same =
     let spelled : worker_line ∷ (w ++ end_line ∷ (flat_map worker_lines workers ++ done_line ∷ [])) ≡ worker_line ∷ (calls ++ end_line ∷ more) = sym (worker-assoc w (flat_map worker_lines workers) (done_line ∷ [])) ∙ same in
-    (workers, (split_once end_line w (flat_map worker_lines workers ++ done_line ∷ []) calls more (All-head HasNoEnd w workers ends) no_end cc).1)
+    (workers, (split_once end_line w (flat_map worker_lines workers ++ done_line ∷ []) calls more (All-head HasNoEnd w workers ends) no_end (tail_is spelled)).1)
 
 -- after a worker comes another or the end
 pub after_worker_line : (others : List (List (List ℕ))) (line : List ℕ) (more : List (List ℕ)) → line ≢ worker_line → line ≢ done_line → flat_map worker_lines others ++ done_line ∷ [] ≡ line ∷ more → ⊥
-after_worker_line [] line more not_worker not_done same = not_done cc
-after_worker_line (w ∷ others) line more not_worker not_done same = not_worker cc
+after_worker_line [] line more not_worker not_done same = not_done (sym (head_is same))
+after_worker_line (w ∷ others) line more not_worker not_done same = not_worker (sym (head_is same))
 
 pub after_worker_done : (others : List (List (List ℕ))) (line : List ℕ) (more : List (List ℕ)) → flat_map worker_lines others ++ done_line ∷ [] ≡ done_line ∷ line ∷ more → ⊥
 after_worker_done [] line more same = cc
-after_worker_done (w ∷ others) line more same = cc
+after_worker_done (w ∷ others) line more same = differ_at 1 worker_line done_line refl (head_is same)
 
 -- a built session with a worker has its script
 pub script_of : (scripts : List (List Call)) (more : List (List ℕ)) → after_board [] (map (map call_line) scripts) ≡ worker_line ∷ more → (script : List Call) × (others : List (List Call)) × (scripts ≡ script ∷ others) × (map call_line script ++ end_line ∷ (flat_map worker_lines (map (map call_line) others) ++ done_line ∷ []) ≡ more)
-script_of [] more same = absurd cc
+script_of [] more same = absurd (differ_at 1 done_line worker_line refl (head_is same))
 script_of (s ∷ others) more same =
     let spelled : worker_line ∷ (map call_line s ++ end_line ∷ (flat_map worker_lines (map (map call_line) others) ++ done_line ∷ [])) ≡ worker_line ∷ more = sym (worker-assoc (map call_line s) (flat_map worker_lines (map (map call_line) others)) (done_line ∷ [])) ∙ same in
-    (s, others, refl, cc)
+    (s, others, refl, tail_is spelled)

@@ -1,5 +1,5 @@
 -- What follows for a caller from the way in which a command on a session ended.
-use Rattle.std.proofs.Common.{◌≡◌, ℕ, ◌<◌, ◌≤◌, ◌⊎◌, inl, inr, ⊎_elim, List, ◌++◌, Option, Some, None, refl, sym, subst, ap, ◌∙◌, append-nil, arith, length, length-append}
+use Rattle.std.proofs.Common.{◌≡◌, ◌≢◌, ℕ, ◌+◌, ◌<◌, ◌≤◌, ◌⊎◌, inl, inr, ⊎_elim, List, ◌++◌, Option, Some, None, refl, sym, subst, ap, ◌∙◌, append-nil, arith, length, length-append}
 use Rattle.std.proofs.lemmas.Bool.{cases_lt}
 use Rattle.reg_outside.specs.Count.{Rose, Stayed}
 use Rattle.reg_outside.specs.CountFacts.{Rose-not_Stayed}
@@ -12,7 +12,8 @@ use Rattle.regulator_main.specs.declared.status.Status.{Status}
 use Rattle.regulator_main.specs.declared.status.Status.TheVariants.{Done, Memory, Words, ReadFault, WriteFault, SessionRefused}
 use Rattle.regulator_main.specs.Demo.{demo_plain}
 use Rattle.regulator_main.specs.Ended.{Input, Output, Wires, Sent, RanSession, Refused, Answered, Ended}
-use Rattle.regulator_main.specs.Front.{Reads, Plays, Refuses, Whole, CutAt}
+use Rattle.regulator_main.specs.Front.{Reads, Plays, Refuses, Whole, CutAt, IfRefused, IfWriteFault}
+use Rattle.regulator_main.specs.Input.{TookAtMost}
 use Rattle.regulator_main.specs.Session.{session_limit, IsSession, HasFault, FirstFault, refusal_text}
 use Rattle.regulator_main.proofs.SessionLaws.{sessions_have_no_fault, one_fault}
 
@@ -51,6 +52,16 @@ fault_read bytes input left' fault reads first =
     (λ (long : session_limit < length bytes). too_long bytes input fault.line fault.kind long (much_read bytes input left' reads long) first)
     (λ (short : length bytes ≤ session_limit). subst (λ b. FirstFault b fault) (all_read bytes input left' reads short) first)
     (cases_lt session_limit (length bytes))
+
+-- words that are no command end in no other way
+pub no_read_fault : Words ≡ ReadFault → ⊥
+no_read_fault is = cc
+
+pub no_run : Words ≡ Done → ⊥
+no_run is = cc
+
+pub no_want : Words ≡ Memory → ⊥
+no_want is = cc
 
 module _ (i i' : Input) (o o' : Output) (w w' : Wires) where
   -- the history that was printed, as far as it was written
@@ -145,6 +156,45 @@ module _ (i i' : Input) (o o' : Output) (w w' : Wires) where
   stands : (s : Status) → Ended i i' o o' w w' s → Stands s
   stands s (inl heard) = stands_answered s heard.bytes heard.read heard.count heard.answered
   stands s (inr not_heard) = stands_not_heard s not_heard.output_stays not_heard.wires_stay not_heard.why
+
+  -- the same, said of any status
+  pub record Says (s : Status) : Type 0 where
+    pub write_fault : IfWriteFault s (λ kept. Rose o.faults o'.faults)
+    pub cut : IfWriteFault s (λ kept. Ran (WrotePart kept) ⊎ ((fault : SessionFault) × Refuses i.left i'.left w.faults w'.faults w.list w'.list fault (WrotePart kept)))
+    pub refused : IfRefused s (λ fault. Refuses i.left i'.left w.faults w'.faults w.list w'.list fault WroteWhole)
+    pub source_count : s ≢ ReadFault → i'.faults ≡ i.faults
+    pub sink_count : (o'.faults ≡ o.faults) ⊎ ((kept : ℕ) × (s ≡ WriteFault kept))
+
+  says_by : (s : Status) → Stands s → Says s
+  says_by Done st = record { write_fault = tt; cut = tt; refused = tt; source_count = λ other. st.1; sink_count = inl st.2 }
+  says_by Memory st = record { write_fault = tt; cut = tt; refused = tt; source_count = λ other. st.1; sink_count = inl st.2 }
+  says_by Words st = absurd st
+  says_by ReadFault st = record { write_fault = tt; cut = tt; refused = tt; source_count = λ other. absurd (other refl); sink_count = inl (ap (λ (out : Output). out.faults) st.1) }
+  says_by (WriteFault kept) st = record { write_fault = st.0; cut = st.1; refused = tt; source_count = λ other. st.2; sink_count = inr (kept, refl) }
+  says_by (SessionRefused fault) st = record { write_fault = tt; cut = tt; refused = st.0; source_count = λ other. st.1; sink_count = inl st.2 }
+
+  pub says : (s : Status) → Ended i i' o o' w w' s → Says s
+  says s ended = says_by s (stands s ended)
+
+  -- what each status says
+  pub at_words : (s : Status) → Ended i i' o o' w w' s → s ≡ Words → ⊥
+  at_words s ended is = subst Stands is (stands s ended)
+
+  pub at_read_fault : (s : Status) → Ended i i' o o' w w' s → s ≡ ReadFault → Rose i.faults i'.faults × (o'.written ≡ o.written) × (w'.faults ≡ w.faults) × (w'.list ≡ w.list)
+  at_read_fault s ended is =
+      let st = subst Stands is (stands s ended) in
+      (st.0, ap (λ (out : Output). out.written) st.1, ap (λ (wires : Wires). wires.faults) st.2, ap (λ (wires : Wires). wires.list) st.2)
+
+  pub at_done : (s : Status) → Ended i i' o o' w w' s → s ≡ Done → Ran WroteWhole
+  at_done s ended is = (subst Stands is (stands s ended)).0
+
+  pub at_memory : (s : Status) → Ended i i' o o' w w' s → s ≡ Memory → o'.written ≡ o.written
+  at_memory s ended is = (subst Stands is (stands s ended)).0
+
+  -- no more was taken than shows that a text is too long
+  pub took : (s : Status) → Ended i i' o o' w w' s → TookAtMost (session_limit + 1) i.left i'.left
+  took s (inl heard) = (heard.bytes, heard.read.few, heard.read.taken)
+  took s (inr not_heard) = not_heard.took
 
   module _ (bytes : List ℕ) (told : i.left ≡ Some bytes) (source_stays : Stayed i.faults i'.faults) (sink_stays : Stayed o.faults o'.faults) where
     reads_all : (input : List ℕ) → Reads i.left i'.left input → Reads (Some bytes) i'.left input

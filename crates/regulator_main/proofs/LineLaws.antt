@@ -1,8 +1,11 @@
 -- A text, one line at a time.
-use Rattle.std.proofs.Common.{ℕ, ◌≡◌, ◌≢◌, ◌-◌, ◌<◌, suc, List, [], ◌∷◌, ◌++◌, length, take, get_or, eqb, false, All, sym, refl, ap, ◌∙◌, arith}
+use Rattle.std.proofs.Common.{ℕ, ◌≡◌, ◌≢◌, ◌-◌, ◌<◌, suc, List, [], ◌∷◌, ◌++◌, length, take, get_or, eqb, Bool, not, true, false, All, sym, refl, ap, ◌∙◌, arith, length-append}
 use Rattle.std.specs.List.{join_with_byte}
-use Rattle.std.proofs.lemmas.Bool.Decides.{nat_tests}
+use Rattle.std.specs.Cmp.Lexicographic.{pointwise}
+use Rattle.std.proofs.lemmas.Bool.{eqb-true, eqb-false}
+use Rattle.std.proofs.lemmas.Bool.Decides.{nat_tests, Decides-eqb}
 use Rattle.std.proofs.lemmas.List.Elements.{All-weaker}
+use Rattle.std.proofs.lemmas.Slice.Eq.{slice_eq-Decides}
 use Rattle.std.proofs.lemmas.List.Splits.{slice_split_none, slice_split_at, length-slice_split, join_with_byte-slice_split}
 use Rattle.regulator_main.specs.Lines.{pieces, lines_of, unended}
 use Rattle.regulator_main.proofs.Separators.{Lacks}
@@ -74,6 +77,30 @@ pub text_empty : (text : List ℕ) → lines_of text ≡ [] → unended text ≡
 unfolding front last
 text_empty text none empty = sym (join_with_byte-slice_split 10 text) ∙ one_piece (pieces text) none empty
 
-pub empty_list : (xs : List ℕ) → length xs ≡ 0 → xs ≡ []
+empty_list : (xs : List ℕ) → length xs ≡ 0 → xs ≡ []
 empty_list [] none = refl
 empty_list (x ∷ xs) none = absurd (omega (arith, none))
+
+-- by the test whether a list is empty
+pub empty_by : (xs : List ℕ) → true ≡ eqb (length xs) 0 → xs ≡ []
+empty_by xs test = empty_list xs (eqb-true (length xs) 0 (sym test))
+
+pub filled_by : (xs : List ℕ) → false ≡ eqb (length xs) 0 → xs ≢ []
+filled_by xs test same = eqb-false (length xs) 0 (sym test) (ap length same)
+
+-- a test that was turned round
+pub turned : (b c : Bool) → c ≡ not b → not c ≡ b
+turned true c is = ap not is
+turned false c is = ap not is
+
+-- by the test whether a line is a keyword
+module _ (line text keyword : List ℕ) (is : text ≡ keyword) where
+  pub is_line : true ≡ pointwise eqb line text → line ≡ keyword
+  is_line test = (slice_eq-Decides Decides-eqb line text true test).0 refl ∙ is
+
+  pub is_other : false ≡ pointwise eqb line text → line ≢ keyword
+  is_other test same = let wrong = (slice_eq-Decides Decides-eqb line text false test).1 (same ∙ sym is) in absurd cc
+
+-- less is left after a line
+pub shorter : (text line rest : List ℕ) → text ≡ line ++ 10 ∷ rest → length rest < length text
+shorter text line rest cut = omega (arith, ap length cut, length-append line (10 ∷ rest))

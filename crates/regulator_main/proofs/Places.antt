@@ -9,6 +9,7 @@ use Rattle.regulator_main.specs.Reading.{before_board, before_workers, before_ca
 use Rattle.regulator_main.specs.Session.{AreSession, RefusesLine}
 use Rattle.regulator_main.proofs.Begins.{begins_session}
 use Rattle.regulator_main.proofs.Frames.{first_line, demo_line, dts_line, worker_line, done_line, after_board, demo_only, not_board, after_board_line, after_board_done, setup-≢-worker, setup-≢-done, worker-assoc, differ_at}
+use Rattle.regulator_main.proofs.Separators.{head_is, tail_is}
 use Rattle.regulator_main.proofs.SetupLines.{IsSetupLine}
 
 -- a script of one worker that is built, and short
@@ -37,24 +38,24 @@ one_frame script = ap (λ x. first_line ∷ demo_line ∷ x) (worker-assoc (map 
 -- what frames begin with the demo board
 pub demo_frame : (lines : List (List ℕ)) → Begins IsFrame (first_line ∷ demo_line ∷ lines) → (setup : List Setup) × (workers : List (List (List ℕ))) × (more : List (List ℕ)) × All IsSetup setup × All HasNoEnd workers × (after_board setup workers ≡ lines ++ more)
 demo_frame lines (frame, good, more, same) =
-    (frame.setup, frame.workers, more, good.setup, good.workers, demo_only frame.board (after_board frame.setup frame.workers) (lines ++ more) cc)
+    (frame.setup, frame.workers, more, good.setup, good.workers, demo_only frame.board (after_board frame.setup frame.workers) (lines ++ more) (tail_is same))
 
 pub built_frame : (lines : List (List ℕ)) → Begins IsBuilt (first_line ∷ demo_line ∷ lines) → (scripts : List (List Call)) × (more : List (List ℕ)) × AreBuilt scripts × (after_board [] (map (map call_line) scripts) ≡ lines ++ more)
 built_frame lines (frame, (scripts, built, is), more, same) =
     let spelled : frame_lines (frame_of scripts) ≡ first_line ∷ demo_line ∷ (lines ++ more) = sym (ap frame_lines is) ∙ same in
-    (scripts, more, built, cc)
+    (scripts, more, built, tail_is (tail_is spelled))
 
 pub short_frame : (lines : List (List ℕ)) → Begins IsWithinLimits (first_line ∷ demo_line ∷ lines) → (scripts : List (List Call)) × (more : List (List ℕ)) × AreShort scripts × (after_board [] (map (map call_line) scripts) ≡ lines ++ more)
 short_frame lines (frame, (scripts, built, short, is), more, same) =
     let spelled : frame_lines (frame_of scripts) ≡ first_line ∷ demo_line ∷ (lines ++ more) = sym (ap frame_lines is) ∙ same in
-    (scripts, more, short, cc)
+    (scripts, more, short, tail_is (tail_is spelled))
 
 -- first line
 pub begins_nothing : Begins IsWithinLimits []
 begins_nothing = begins_session [] [] (frame_lines (frame_of [])) none_built none_short refl
 
 pub first_refused : (line : List ℕ) → line ≢ first_line → RefusesLine BadSession (line ∷ [])
-first_refused line other (frame, good, more, same) = other cc
+first_refused line other (frame, good, more, same) = other (sym (head_is same))
 
 pub nothing_ends : (tail : List ℕ) (scripts : List (List Call)) → AreSession [] tail scripts → ⊥
 nothing_ends tail scripts session = let wrong : [] ≡ frame_lines (frame_of scripts) = session.frame in cc
@@ -65,7 +66,7 @@ begins_board = begins_session [] before_board (demo_line ∷ done_line ∷ []) n
 
 pub board_refused : (line : List ℕ) → line ≢ demo_line → line ≢ dts_line → RefusesLine BadSession (before_board ++ line ∷ [])
 board_refused line not_demo not_dts (frame, good, more, same) =
-    not_board frame.board (after_board frame.setup frame.workers) line more not_demo not_dts cc
+    not_board frame.board (after_board frame.setup frame.workers) line more not_demo not_dts (tail_is same)
 
 dts_begins : Begins IsFrame (before_board ++ dts_line ∷ [])
 dts_begins = (record { board = Text []; setup = []; workers = [] }, record { board = All-nil (λ line. line ≢ end_line); setup = All-nil IsSetup; workers = All-nil HasNoEnd }, end_line ∷ done_line ∷ [], refl)
@@ -73,7 +74,7 @@ dts_begins = (record { board = Text []; setup = []; workers = [] }, record { boa
 dts_not_built : Begins IsBuilt (before_board ++ dts_line ∷ []) → ⊥
 dts_not_built (frame, (scripts, built, is), more, same) =
     let spelled : frame_lines (frame_of scripts) ≡ first_line ∷ dts_line ∷ more = sym (ap frame_lines is) ∙ same in
-    differ_at 8 demo_line dts_line refl cc
+    differ_at 8 demo_line dts_line refl (head_is (tail_is spelled))
 
 pub dts_refused : RefusesLine NotYet (before_board ++ dts_line ∷ [])
 dts_refused = (dts_begins, dts_not_built)
@@ -94,8 +95,8 @@ setup_begins : (setup : Setup) → IsSetup setup → Begins IsFrame (before_work
 setup_begins setup sound = (record { board = Demo; setup = setup ∷ []; workers = [] }, record { board = tt; setup = All-cons IsSetup setup [] sound (All-nil IsSetup); workers = All-nil HasNoEnd }, done_line ∷ [], refl)
 
 not_both : (setup : Setup) → ((scripts : List (List Call)) × (more : List (List ℕ)) × AreBuilt scripts × (after_board [] (map (map call_line) scripts) ≡ setup_text setup ∷ more)) → ⊥
-not_both setup ([], more, built, same) = setup-≢-done setup cc
-not_both setup (s ∷ scripts, more, built, same) = setup-≢-worker setup cc
+not_both setup ([], more, built, same) = setup-≢-done setup (sym (head_is same))
+not_both setup (s ∷ scripts, more, built, same) = setup-≢-worker setup (sym (head_is same))
 
 setup_not_built : (setup : Setup) → Begins IsBuilt (before_workers ++ setup_text setup ∷ []) → ⊥
 setup_not_built setup begins = not_both setup (built_frame (setup_text setup ∷ []) begins)

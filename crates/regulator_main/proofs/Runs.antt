@@ -1,7 +1,8 @@
 -- One run of the scripts, from what each worker's run says.
-use Rattle.std.proofs.Common.{◌≡◌, ◌≢◌, ℕ, ◌<◌, ◌≤◌, Bool, true, false, eqb, List, [], ◌∷◌, Option, refl, sym, subst, ap, ◌∙◌, append-nil, arith, map, length, get_or}
-use Rattle.std.specs.Prelude.{option_map}
+use Rattle.std.proofs.Common.{◌≡◌, ◌≢◌, ℕ, ◌<◌, ◌≤◌, Bool, true, false, eqb, List, [], ◌∷◌, Option, None, refl, sym, subst, ap, ◌∙◌, append-nil, arith, map, length, get_or}
+use Rattle.std.specs.Prelude.{option_map, slice_get}
 use Rattle.std.proofs.lemmas.Bool.Decides.{nat_tests}
+use Rattle.std.proofs.lemmas.List.{length-map}
 use Rattle.std.proofs.lemmas.List.Elements.{All-nil}
 use Rattle.reg_outside.specs.Count.{RoseBy}
 use Rattle.reg_outside.specs.CountFacts.{RoseBy-zero}
@@ -78,6 +79,16 @@ pub sole : (scripts : List (List Call)) (script : List Call) → length scripts 
 sole [] script few here some = absurd (omega arith)
 sole (first ∷ []) script few here some = ap (λ x. x ∷ []) here
 sole (first ∷ second ∷ rest) script few here some = absurd (omega arith)
+
+-- a worker has a row for each call of its script
+pub length-plays : (board : Board) (plain : Plain) (worker : ℕ) (script : List Call) (rows : List Row) (counts counts' : ℕ → ℕ) (lists lists' : ℕ → Option Updates) → PlaysWorker board plain worker script rows counts counts' lists lists' → length rows ≡ length script
+length-plays board plain worker script rows counts counts' lists lists' plays =
+    sym (length-map rows turn_of) ∙ ap length plays.in_order ∙ length-map script (λ call. (worker, call))
+
+-- where there is no first, there is none
+pub none_first : {X : Type 0} (xs : List X) → slice_get xs 0 ≡ None → xs ≡ []
+none_first [] is = refl
+none_first (x ∷ xs) is = absurd cc
 
 -- what runs one script runs them all
 pub runs_sole : (board : Board) (plain : Plain) (scripts : List (List Call)) (script : List Call) (rows : List Row) (counts mid counts' : ℕ → ℕ) (lists told lists' : ℕ → Option Updates)

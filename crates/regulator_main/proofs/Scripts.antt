@@ -1,14 +1,14 @@
 -- A script, one row more at a time.
-use Rattle.std.proofs.Common.{◌≡◌, ℕ, ◌+◌, ◌<◌, inl, true, cond, eqb, ltb, eq-eqb, List, [], ◌∷◌, ◌++◌, Option, Some, None, refl, sym, subst, ap, ◌∙◌, append_assoc, append-nil, zero-add, arith, map, length, get_or, take}
+use Rattle.std.proofs.Common.{◌≡◌, ℕ, ◌+◌, ◌<◌, inl, true, cond, eqb, ltb, eq-eqb, List, [], ◌∷◌, ◌++◌, Option, Some, None, refl, sym, subst, ap, ◌∙◌, append_assoc, append-nil, zero-add, arith, length-append, map, length, get_or, take, flat_map}
 use Rattle.std.specs.Prelude.{count_by}
 use Rattle.std.proofs.lemmas.Bool.Decides.{nat_tests}
-use Rattle.std.proofs.lemmas.List.{take_more, map-append}
-use Rattle.std.proofs.lemmas.List.Elements.{All-push, filter-append}
+use Rattle.std.proofs.lemmas.List.{take_more, map-append, flat_map_more}
+use Rattle.std.proofs.lemmas.List.Elements.{All-nil, All-push, filter-append}
 use Rattle.std.proofs.lemmas.List.Sums.{sum_by-append}
 use Rattle.reg_outside.specs.Count.{RoseBy}
 use Rattle.reg_outside.specs.CountFacts.{RoseBy-zero, RoseBy-trans}
 use Rattle.reg_outside.specs.Told.{with_more}
-use Rattle.reg_outside.specs.ToldFacts.{with_more-with_more}
+use Rattle.reg_outside.specs.ToldFacts.{with_more-nil, with_more-with_more}
 use Rattle.board.specs.declared.board.Board.{Board}
 use Rattle.board.specs.declared.write.Write.{Write}
 use Rattle.plain_board.specs.declared.answer.Answer.{Answer}
@@ -75,11 +75,30 @@ rows_of-push worker line call said rows =
     let row = row_of worker line call said in
     filter-append (λ r. eqb r.worker worker) rows (row ∷ []) ∙ ap (λ t. rows_of worker rows ++ cond t (row ∷ []) []) (eq-eqb worker worker refl)
 
+-- a row more is one of its worker's
+pub one_row_more : (worker line : ℕ) (call : Call) (said : Answer) (rows rows' : List Row) (n : ℕ) → rows' ≡ rows ++ row_of worker line call said ∷ [] → length (rows_of worker rows) ≡ n → length (rows_of worker rows') ≡ n + 1
+one_row_more worker line call said rows rows' n pushed before =
+    ap (λ rs. length (rows_of worker rs)) pushed ∙ ap length (rows_of-push worker line call said rows)
+    ∙ omega (arith, before, length-append (rows_of worker rows) (row_of worker line call said ∷ []))
+
 faults_of-push : (worker line : ℕ) (call : Call) (said : Answer) (rows : List Row) → faults_of worker (rows ++ row_of worker line call said ∷ []) ≡ faults_of worker rows + cond (is_fault said) 1 0
 faults_of-push worker line call said rows =
     ap (count_by (λ r. is_fault r.answer)) (rows_of-push worker line call said rows)
     ∙ sum_by-append (λ r. cond (is_fault r.answer) 1 0) (rows_of worker rows) (row_of worker line call said ∷ [])
     ∙ ap (λ n. faults_of worker rows + n) (zero-add (cond (is_fault said) 1 0))
+
+-- a script of no line does nothing
+pub plays_none : (board : Board) (plain : Plain) (worker : ℕ) (told : Option Updates) (count : ℕ) → Law board plain.regs → PlaysScript board plain worker [] [] told told count count
+plays_none board plain worker told count law = record {
+  legal = tt;
+  in_order = refl;
+  keeps = All-nil (λ row. row.writes ≡ []);
+  lawful = law;
+  names = All-nil (λ row. NamesRail board row.call);
+  rails = All-nil (λ row. HasRails board row.answer);
+  moves = sym (with_more-nil told);
+  faults = RoseBy-zero count;
+}
 
 module _ (board : Board) (plain now plain' : Plain) (worker line : ℕ) (call : Call) (said : Answer) (rows : List Row) (told mid told' : Option Updates) (count between count' : ℕ) (is : now ≡ replay board plain rows) (performs : Performs board now plain' worker call said mid told' between count') where
   abbrev the_row : Row
@@ -129,3 +148,9 @@ module _ (board : Board) (plain now plain' : Plain) (worker line : ℕ) (call : 
     faults = subst (RoseBy count count') (sym (faults_of-push worker line call said rows))
         (RoseBy-trans count between count' (faults_of worker rows) (cond (is_fault said) 1 0) plays.faults (rose_by said between count' performs.faults));
   }
+
+-- a text that grows by what each item prints
+pub printed_more : {X : Type 0} (print : X → List ℕ) (xs : List X) (i : ℕ) (x : X) (text text' : List ℕ) → i < length xs → x ≡ get_or xs i x → text ≡ flat_map print (take i xs) → text' ≡ text ++ print x → text' ≡ flat_map print (take (i + 1) xs)
+printed_more print xs i x text text' within is before more =
+    more ∙ ap (λ t. t ++ print x) before ∙ flat_map_more print [] (take i xs) x
+    ∙ ap (flat_map print) (ap (λ y. take i xs ++ y ∷ []) is ∙ sym (take_more xs i x within))

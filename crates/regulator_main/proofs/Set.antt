@@ -1,8 +1,9 @@
 -- A set of a handle, from its parts.
-use Rattle.std.proofs.Common.{◌≡◌, ℕ, ◌<◌, Bool, true, false, cond, ◌||◌, leb, ltb, eqb, eq-eqb, List, [], ◌∷◌, Option, Some, None, refl, sym, subst, ap, ◌∙◌, filter, length}
+use Rattle.std.proofs.Common.{◌≡◌, ℕ, ◌+◌, ◌<◌, ◌≤◌, Bool, true, false, cond, ◌||◌, leb, ltb, eqb, eq-eqb, List, [], ◌∷◌, Option, Some, None, refl, sym, subst, ap, ◌∙◌, arith, filter, length, length-append}
 use Rattle.std.specs.Prelude.{slice_get, position, All}
 use Rattle.std.specs.List.{list_all}
-use Rattle.std.proofs.lemmas.List.Elements.{All-set, filter_agree}
+use Rattle.std.proofs.lemmas.List.Elements.{All-push, All-set, filter_agree}
+use Rattle.std.proofs.lemmas.List.Quantifiers.{position-Some}
 use Rattle.reg_outside.specs.ToldFacts.{with_more-nil}
 use Rattle.arrayvec.specs.ArrayString.{ArrayString}
 use Rattle.board.specs.declared.board.Board.{Board}
@@ -11,11 +12,11 @@ use Rattle.board.specs.declared.rail_id.RailId.{RailId}
 use Rattle.board.specs.Rail.{allowed, is_within, least, lesser, IsAllowed}
 use Rattle.board.specs.Valid.{IsValid}
 use Rattle.plain_board.specs.declared.answer.Answer.{Answer}
-use Rattle.plain_board.specs.declared.answer.Answer.TheVariants.{BadRange, NoValue}
+use Rattle.plain_board.specs.declared.answer.Answer.TheVariants.{Ok, BadRange, NoHandle, NoValue}
 use Rattle.plain_board.specs.declared.call.Call.TheVariants as calls
 use Rattle.plain_board.specs.declared.handle_row.HandleRow.{HandleRow}
 use Rattle.plain_board.specs.declared.plain.Plain.{Plain}
-use Rattle.plain_board.specs.Answer.{Grip, grip_of, target_of}
+use Rattle.plain_board.specs.Answer.{Grip, grip_of, get_on, opened, target_of}
 use Rattle.plain_board.specs.Inv.{Inv}
 use Rattle.plain_board.specs.Law.{Law, Throughout}
 use Rattle.plain_board.specs.Moves.{Move, field_of_move, written}
@@ -97,3 +98,54 @@ module _ (board : Board) (plain : Plain) (valid : IsValid board) (law : Law boar
     updates = rw (is, straight, some) moves.updates;
     faults = moves.faults;
   }
+
+-- the place of an element is within its list
+pub place_within : {X : Type 0} (p : X → Bool) (xs : List X) (i : ℕ) → position p xs ≡ Some i → i < length xs
+place_within p [] i is = absurd cc
+place_within p (x ∷ xs) i is = (position-Some p (x ∷ xs) i x is).0
+
+-- a handle that isn't open is told so, and nothing moves
+pub performs_missing : (board : Board) (plain : Plain) (worker : ℕ) (handle : ArrayString) (lo hi : ℕ) (told : Option Updates) (count : ℕ)
+    → Law board plain.regs → position (is_own worker handle.bytes) plain.handles ≡ None → Performs board plain plain worker (calls.Set handle lo hi) NoHandle told told count count
+performs_missing board plain worker handle lo hi told count law none =
+    let is : grip_of board plain worker handle.bytes ≡ None = rw none in
+    record { within = tt; answered = rw is; rails = tt; lawful = rw is law; updates = rw is (sym (with_more-nil told)); faults = refl }
+
+-- a handle is opened, and nothing moves
+pub performs_open : (board : Board) (plain plain' : Plain) (worker : ℕ) (handle : ArrayString) (rail : RailId) (exclusive : Bool) (said : Answer) (told : Option Updates) (count : ℕ)
+    → Law board plain.regs → (said, plain') ≡ opened plain worker handle rail exclusive → Performs board plain plain' worker (calls.Open handle rail exclusive) said told told count count
+performs_open board plain plain' worker handle rail exclusive said told count law is =
+    let fine : said ≡ Ok = ap (λ (p : Answer × Plain). p.0) is in
+    subst (λ a. Performs board plain plain' worker (calls.Open handle rail exclusive) a told told count count) (sym fine) (record {
+      within = tt;
+      answered = sym is ∙ ap (λ a. (a, plain')) fine;
+      rails = tt;
+      lawful = law;
+      updates = sym (with_more-nil told);
+      faults = refl;
+    })
+
+-- a value is told, and nothing moves
+performs_got : (board : Board) (plain : Plain) (worker : ℕ) (handle : ArrayString) (grip : Option Grip) (told : Option Updates) (count : ℕ)
+    → Law board plain.regs → grip_of board plain worker handle.bytes ≡ grip → Performs board plain plain worker (calls.Get handle) (get_on plain grip) told told count count
+performs_got board plain worker handle None told count law is = record { within = tt; answered = rw is; rails = tt; lawful = law; updates = sym (with_more-nil told); faults = refl }
+performs_got board plain worker handle (Some grip) told count law is = record { within = tt; answered = rw is; rails = tt; lawful = law; updates = sym (with_more-nil told); faults = refl }
+
+pub performs_get : (board : Board) (plain : Plain) (worker : ℕ) (handle : ArrayString) (said : Answer) (told : Option Updates) (count : ℕ)
+    → Law board plain.regs → said ≡ get_on plain (grip_of board plain worker handle.bytes) → Performs board plain plain worker (calls.Get handle) said told told count count
+performs_get board plain worker handle said told count law is = rw is (performs_got board plain worker handle (grip_of board plain worker handle.bytes) told count law refl)
+
+-- the plain board after a handle is opened
+module _ (board : Board) (plain plain' : Plain) (worker : ℕ) (handle : ArrayString) (rail : RailId) (exclusive : Bool) (said : Answer) where
+  pub inv_open : Inv board plain → rail.0 < length board.rails → (said, plain') ≡ opened plain worker handle rail exclusive → Inv board plain'
+  inv_open inv within is =
+      subst (Inv board) (sym (ap (λ (p : Answer × Plain). p.1) is)) (record {
+        law = inv.law;
+        regs = inv.regs;
+        holds = inv.holds;
+        events = inv.events;
+        handles = All-push (λ row. row.0.0 < length board.rails) plain.handles _ inv.handles within;
+      })
+
+pub length-open : (plain plain' : Plain) (worker : ℕ) (handle : ArrayString) (rail : RailId) (exclusive : Bool) (said : Answer) → (said, plain') ≡ opened plain worker handle rail exclusive → length plain'.handles ≤ length plain.handles + 1
+length-open plain plain' worker handle rail exclusive said is = omega (arith, simp length-append at (ap (λ (p : Answer × Plain). length p.1.handles) is))

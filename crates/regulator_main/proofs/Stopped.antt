@@ -1,5 +1,5 @@
 -- What a refused move leaves.
-use Rattle.std.proofs.Common.{◌≡◌, true, false, cond, eqb, ℕ, ◌<◌, zero, suc, List, [], ◌∷◌, Some, refl, subst, ap, ◌∙◌, arith, map, length, take}
+use Rattle.std.proofs.Common.{◌≡◌, true, false, cond, eqb, ℕ, ◌<◌, zero, suc, List, [], ◌∷◌, Option, Some, refl, sym, subst, ap, ◌∙◌, arith, map, length, take, get_or}
 use Rattle.std.specs.Prelude.{slice_get, unwrap_or, option_map, All}
 use Rattle.std.proofs.lemmas.List.{length-map}
 use Rattle.std.proofs.lemmas.List.Elements.{All-nil, All-cons}
@@ -11,10 +11,14 @@ use Rattle.board.specs.declared.rail_id.RailId.{RailId}
 use Rattle.board.specs.declared.write.Write.{Write}
 use Rattle.board.specs.declared.part.Part.TheVariants.{Selector}
 use Rattle.board.specs.Rail.{uv, allowed}
-use Rattle.plain_board.specs.declared.answer.Answer.TheVariants.{Fault}
+use Rattle.plain_board.specs.declared.answer.Answer.TheVariants.{Fault, OkSet}
 use Rattle.plain_board.specs.declared.plain.Plain.{Plain}
-use Rattle.plain_board.specs.Answer.{Grip, stopped, changed, with_request, kept_request, no_write}
+use Rattle.plain_board.specs.Answer.{Grip, arrived, stopped, changed, with_request, kept_request, no_write}
 use Rattle.plain_board.specs.Moves.{Move, after_moves, writes_of, moves_to, field_of_move, selector_for, update_of_field, way}
+use Rattle.ramp_delay.specs.Times.{time_of}
+use Rattle.plain_board.specs.Law.{StandsWell}
+use Rattle.regulator_main.specs.Desk.{IsKept}
+use Rattle.regulator_main.specs.Walk.{IsSameBeside}
 use Rattle.regulator_main.proofs.Walked.{field_of_selector}
 
 -- a place within a list has an element
@@ -66,3 +70,30 @@ changed_within id before now n within =
 -- an element at a place has what all have
 pub all_at : {X : Type 0} (P : X → Type 0) (xs : List X) (k : ℕ) (x : X) → All P xs → slice_get xs k ≡ Some x → P x
 all_at P xs k x all is = subst P (get_or_from_slice_get xs k x x is) (all k x (get_within xs k x is))
+
+-- an element that was read has what all have
+pub all_read : {X : Type 0} (P : X → Type 0) (xs : List X) (k : ℕ) (x : X) → All P xs → k < length xs → x ≡ get_or xs k x → P x
+all_read P xs k x all within is = subst P (sym is) (all k x within)
+
+-- the answer to a set that made all its moves, and the board after it
+pub arrived_is : (board : Board) (plain plain' : Plain) (grip : Grip) (moves : List Move) (request : ℕ × ℕ) (target delay : ℕ) (regs : List (List ℕ))
+    → regs ≡ after_moves board plain.regs moves
+    → delay ≡ time_of grip.rail.limits.times grip.rail.desc.ramp (uv grip.rail plain.regs) target
+    → plain' ≡ with_request plain grip regs (Some request)
+    → arrived board plain request grip target moves ≡ (OkSet target delay, plain')
+arrived_is board plain plain' grip moves request target delay regs registers time after =
+    rw (← registers, time, after)
+
+-- where the registers and a request are others, all else is kept
+pub kept_by : (plain plain' : Plain) (grip : Grip) (regs : List (List ℕ)) (request : Option (ℕ × ℕ)) → StandsWell grip.rail regs → IsSameBeside grip.rail.desc.selector plain.regs regs → length regs ≡ length plain.regs
+    → plain' ≡ with_request plain grip regs request → IsKept plain plain' grip
+kept_by plain plain' grip regs request stands others chips after =
+    subst (λ p. IsKept plain p grip) (sym after) (record {
+      lawful = stands;
+      others = others;
+      chips = chips;
+      holds = refl;
+      events = refl;
+      row = record grip.row { request = request };
+      handles = refl;
+    })

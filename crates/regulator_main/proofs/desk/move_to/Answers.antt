@@ -1,9 +1,10 @@
-use Rattle.std.proofs.Common.{◌≡◌, ◌<◌, length, subst, sym, ap, ◌∙◌}
+use Rattle.std.proofs.Common.{◌≡◌, ◌<◌, Some, length, subst, sym, ap, ◌∙◌}
 use Rattle.std.specs.Prelude.{All}
+use Rattle.ramp_delay.specs.Times.{time_of}
 use Rattle.board.specs.Rail.{uv}
 use Rattle.plain_board.specs.Answer.{Grip, changed, kept_request, with_request}
 use Rattle.plain_board.specs.Moves.{moves_to}
-use Rattle.regulator_main.proofs.Stopped.{refused_write, stopped_is, get_within, changed_within}
+use Rattle.regulator_main.proofs.Stopped.{arrived_is, kept_by, refused_write, stopped_is, get_within, changed_within}
 use Rattle.regulator_main.proofs.desk.move_to.Goals as goal
 
 pub returns-in_ok-changed-in-Err-clause-moves : goal.returns-in_ok-changed-in-Err-clause-moves
@@ -30,3 +31,31 @@ returns-in_ok-changed-in-Err-clause-moves g c =
       updates = stop.stopped.updates;
       faults = stop.fault;
     }
+
+pub settle-requires : goal.settle-requires
+settle-requires g c = record { place = c.requires.rail; sound = c.requires.sound; allowed = c.requires.allowed; lawful = c.requires.lawful }
+
+pub returns-in-Ok : goal.returns-in-Ok
+returns-in-Ok g c =
+    let rail = c.args.rail.now in
+    let plain = c.args.plain.now in
+    let done = c.in-Ok.ensures in
+    let grip : Grip = record { at = c.args.at; row = c.args.row.now; id = c.args.id; rail = rail } in
+    record {
+      moves = record {
+        within = tt;
+        answered = arrived_is c.args.board.now plain c.put_request.new.plain grip (moves_to c.args.id rail (uv rail plain.regs) c.args.target) c.args.request c.args.target c.from-delay.result c.settle.new.regs
+            done.there.registers (c.from-delay.ensures ∙ c.time.ensures.exact ∙ ap (λ v. time_of rail.limits.times rail.desc.ramp v c.args.target) c.uv-before.ensures) c.put_request.ensures;
+        rails = tt;
+        lawful = done.there.lawful;
+        updates = done.there.updates;
+        faults = done.counted;
+      };
+      same = kept_by plain c.put_request.new.plain grip c.settle.new.regs (Some c.args.request) done.law done.others done.chips c.put_request.ensures;
+    }
+
+pub returns-in_ok-changed-in-Err-clause-same : goal.returns-in_ok-changed-in-Err-clause-same
+returns-in_ok-changed-in-Err-clause-same g c =
+    let stop = c.in-Err.ensures in
+    let grip : Grip = record { at = c.args.at; row = c.args.row.now; id = c.args.id; rail = c.args.rail.now } in
+    kept_by c.args.plain.now c.put_request-in-Err.new.plain grip c.settle.new.regs c.kept_request.result stop.law stop.others stop.chips c.put_request-in-Err.ensures

@@ -1,10 +1,20 @@
-use Rattle.std.proofs.Common.{◌≡◌, ◌+◌, ◌∷◌, [], ◌++◌, ◌∙◌, List, sym, subst, ap, arith, length, length-append, take}
+use Rattle.std.proofs.Common.{◌≡◌, ◌+◌, ◌∷◌, [], ◌++◌, ◌∙◌, List, refl, sym, subst, ap, arith, length, take}
+use Rattle.std.proofs.lemmas.List.{take_all}
 use Rattle.board.specs.declared.write.Write.{Write}
 use Rattle.plain_board.specs.declared.row.Row.{Row}
 use Rattle.plain_board.specs.History.{NamesRail, replay, rows_of}
 use Rattle.regulator_main.specs.Script.{PlaysScript}
-use Rattle.regulator_main.proofs.Scripts.{row_of, plays_more, replay_more, rows_of-push}
+use Rattle.regulator_main.proofs.Scripts.{row_of, plays_none, plays_more, replay_more, one_row_more}
+use Rattle.regulator_main.proofs.Stopped.{all_read}
+use Rattle.regulator_main.proofs.script.run_script.Given as given
 use Rattle.regulator_main.proofs.script.run_script.Goals as goal
+use Rattle.regulator_main.proofs.script.run_script.Goals.{In_ok-push}
+
+-- the row that is put last
+pushed : (g : given.Over) (c : In_ok-push g) → c.push.new.self.items ≡ c.loop-call.rows.items ++ row_of c.args.worker (c.loop-call.line + 1) c.call-item.result c.in_ok-answer.answer ∷ []
+pushed g c =
+    c.in_ok-push.ensures.items
+    ∙ ap (λ (ws : List Write). c.loop-call.rows.items ++ (record { worker = c.args.worker; line = c.loop-call.line + 1; call = c.call-item.result; answer = c.in_ok-answer.answer; writes = ws }) ∷ []) c.new.ensures
 
 pub loop-call-preserved : goal.loop-call-preserved
 loop-call-preserved g c =
@@ -17,19 +27,46 @@ loop-call-preserved g c =
     let said = c.in_ok-answer.answer in
     let before = c.loop-call.invariant in
     let performs = c.in_ok-answer.ensures.performs in
-    let pushed : c.push.new.self.items ≡ rows ++ row_of c.args.worker line c.call-item.result said ∷ [] =
-    c.in_ok-push.ensures.items ∙ ap (λ (ws : List Write). rows ++ (record { worker = c.args.worker; line = line; call = c.call-item.result; answer = said; writes = ws }) ∷ []) c.new.ensures in
+    let d = (goal.at.loop-call-preserved g c).In_ok-push in
     record {
-      plays = subst (λ (rs : List Row). PlaysScript board c.args.plain.now c.args.worker (take (i + 1) c.args.script.now) rs (told c.args.wire.now) (told c.perform.new.wire) (count c.args.wire.now) (count c.perform.new.wire)) (sym pushed)
+      plays = subst (λ (rs : List Row). PlaysScript board c.args.plain.now c.args.worker (take (i + 1) c.args.script.now) rs (told c.args.wire.now) (told c.perform.new.wire) (count c.args.wire.now) (count c.perform.new.wire)) (sym (pushed g d))
           (plays_more board c.args.plain.now c.loop-call.plain c.perform.new.plain c.args.worker line c.call-item.result said rows
           (told c.args.wire.now) (told c.loop-call.wire) (told c.perform.new.wire) (count c.args.wire.now) (count c.loop-call.wire) (count c.perform.new.wire) before.replayed performs
-          c.args.script.now i c.in_ok-answer.ensures.inv.law before.plays (omega arith) before.lines (subst (NamesRail board) (sym c.call-item.is) (c.requires.rails i c.call-item.result (omega arith))) (omega arith) c.call-item.is);
+          c.args.script.now i c.in_ok-answer.ensures.inv.law before.plays (ap (λ n. n + 1) before.line) before.lines (all_read (NamesRail board) c.args.script.now i c.call-item.result c.requires.rails c.loop-call-test.true c.call-item.is) c.loop-call-test.true c.call-item.is);
       replayed = replay_more board c.args.plain.now c.loop-call.plain c.perform.new.plain c.args.worker line c.call-item.result said rows
           (told c.args.wire.now) (told c.loop-call.wire) (told c.perform.new.wire) (count c.args.wire.now) (count c.loop-call.wire) (count c.perform.new.wire) before.replayed performs
-          ∙ ap (replay board c.args.plain.now) (sym pushed);
+          ∙ ap (replay board c.args.plain.now) (sym (pushed g d));
       inv = c.in_ok-answer.ensures.inv;
       handles = omega (arith, before.handles, c.in_ok-answer.ensures.handles);
-      line = omega (arith, before.line);
-      lines = ap (λ rs. length (rows_of c.args.worker rs)) pushed ∙ ap length (rows_of-push c.args.worker line c.call-item.result said rows)
-          ∙ omega (arith, before.lines, length-append (rows_of c.args.worker rows) (row_of c.args.worker line c.call-item.result said ∷ []));
+      line = ap (λ n. n + 1) before.line;
+      lines = one_row_more c.args.worker line c.call-item.result said rows c.push.new.self.items i (pushed g d) before.lines;
+    }
+
+pub loop-call-init : goal.loop-call-init
+loop-call-init g c =
+    let none = c.in_ok-rows.ensures.items in
+    record {
+      plays = rw none (plays_none c.args.board.now c.args.plain.now c.args.worker (g.W.Wire.accepted c.args.wire.now) (g.W.Wire.faults c.args.wire.now) c.requires.inv.law);
+      replayed = ap (replay c.args.board.now c.args.plain.now) (sym none);
+      inv = c.requires.inv;
+      handles = omega arith;
+      line = refl;
+      lines = ap (λ rows. length (rows_of c.args.worker rows)) none;
+    }
+
+pub perform-requires : goal.perform-requires
+perform-requires g c = record {
+  valid = c.requires.valid;
+  inv = c.loop-call.invariant.inv;
+  rail = all_read (NamesRail c.args.board.now) _ _ _ c.requires.rails c.loop-call-test.true c.call-item.is;
+}
+
+pub returns : goal.returns
+returns g c =
+    let all = take_all c.loop-call.call-index c.args.script.now c.loop-call-test.false in
+    record {
+      plays = rw (← all) c.loop-call.invariant.plays;
+      replayed = c.loop-call.invariant.replayed;
+      inv = c.loop-call.invariant.inv;
+      handles = omega (arith, c.loop-call.invariant.handles);
     }

@@ -1,9 +1,48 @@
-use Rattle.std.proofs.Common.{sym, ◌∙◌}
+use Rattle.std.proofs.Common.{refl, sym, ◌∙◌}
 use Rattle.board.specs.Rail.{uv}
 use Rattle.regulator_main.proofs.Walked.{makes_none}
 use Rattle.regulator_main.proofs.walk.settle.Goals as goal
 
-pub returns-then-uv-target-clause-there : goal.returns-then-uv-target-clause-there
-returns-then-uv-target-clause-there g c =
-    makes_none c.args.board.now c.args.id c.args.rail.now (uv c.args.rail.now c.args.regs.now) c.args.target c.args.regs.now (g.W.Wire.accepted c.args.wire.now)
-    (sym c.uv.ensures ∙ c.if-uv-target.true) c.requires.lawful
+pub returns-then-uv-target : goal.returns-then-uv-target
+returns-then-uv-target g c = record {
+  there = makes_none c.args.board.now c.args.id c.args.rail.now (uv c.args.rail.now c.args.regs.now) c.args.target c.args.regs.now (g.W.Wire.accepted c.args.wire.now)
+      (sym c.uv.ensures ∙ c.if-uv-target.true) c.requires.lawful;
+  counted = refl;
+  selector = tt;
+  before_the_end = tt;
+  stopped = tt;
+  fault = tt;
+  others = λ other apart. refl;
+  chips = refl;
+  law = c.requires.lawful;
+}
+
+pub returns-in-Ok : goal.returns-in-Ok
+returns-in-Ok g c =
+    let done = c.in-Ok.ensures in
+    record {
+      there = done.there;
+      counted = done.counted;
+      selector = tt;
+      before_the_end = tt;
+      stopped = tt;
+      fault = tt;
+      others = rw c.in-Some.is done.others;
+      chips = done.chips;
+      law = done.lawful;
+    }
+
+pub returns-in-Err : goal.returns-in-Err
+returns-in-Err g c =
+    let done = c.in-Err.ensures in
+    record {
+      there = tt;
+      counted = tt;
+      selector = c.in-Some.is;
+      before_the_end = done.before_the_end;
+      stopped = done.stopped;
+      fault = done.fault;
+      others = rw c.in-Some.is done.others;
+      chips = done.chips;
+      law = done.lawful;
+    }

@@ -1,5 +1,6 @@
-use Rattle.std.proofs.Common.{◌≡◌, ◌∷◌, Option, Some, sym, subst, ◌∙◌, arith, drop, length}
+use Rattle.std.proofs.Common.{◌≡◌, ◌∷◌, Option, Some, refl, sym, ap, subst, ◌∙◌, arith, drop, length}
 use Rattle.std.specs.Prelude.{IfSome}
+use Rattle.reg_outside.specs.Count.{Rose}
 use Rattle.linear_range.specs.Pick.{pair_of}
 use Rattle.chip_regs.specs.declared.field.Field.{Field}
 use Rattle.chip_regs.specs.Field.{FitsField}
@@ -8,7 +9,7 @@ use Rattle.board.specs.Rail.{uv, IsAllowed}
 use Rattle.board.specs.Valid.{IsPlaced}
 use Rattle.plain_board.specs.Moves.{Move, moves_to, selector_for}
 use Rattle.regulator_main.specs.Walk.{IsSameBeside}
-use Rattle.regulator_main.proofs.Walked.{walked_more, rest_more, walked_all, selector_for-first, field_of_selector, choice_fits, fits_byte, uv_written, moves_to-step, none_left}
+use Rattle.regulator_main.proofs.Walked.{walked_none, within_from_rest, walked_more, rest_more, walked_all, selector_for-first, field_of_selector, choice_fits, fits_byte, uv_written, moves_to-step, none_left}
 use Rattle.regulator_main.proofs.walk.walk.Given as given
 use Rattle.regulator_main.proofs.walk.walk.Goals as goal
 use Rattle.regulator_main.proofs.walk.walk.Goals.{After-toward-pick}
@@ -66,7 +67,51 @@ loop-at-preserved g c =
       bound = omega (arith, c.toward-pick.ensures.nearer, c.loop-at.invariant.bound);
     }
 
-pub returns-clause-there : goal.returns-clause-there
-returns-clause-there g c =
-    walked_all c.args.board.now c.args.rail.now _ c.args.regs.now c.loop-at.regs (g.W.Wire.accepted c.args.wire.now) (g.W.Wire.accepted c.loop-at.wire) c.loop-at.made c.loop-at.invariant.walked
-    (none_left c.args.id c.args.rail.now c.loop-at.at c.args.target c.loop-at.made _ c.loop-at.invariant.rest c.loop-at-test.false)
+pub returns : goal.returns
+returns g c = record {
+  there = walked_all c.args.board.now c.args.rail.now _ c.args.regs.now c.loop-at.regs (g.W.Wire.accepted c.args.wire.now) (g.W.Wire.accepted c.loop-at.wire) c.loop-at.made c.loop-at.invariant.walked
+      (none_left c.args.id c.args.rail.now c.loop-at.at c.args.target c.loop-at.made _ c.loop-at.invariant.rest c.loop-at-test.false);
+  counted = c.loop-at.invariant.counted;
+  before_the_end = tt;
+  stopped = tt;
+  fault = tt;
+  others = c.loop-at.invariant.others;
+  chips = c.loop-at.invariant.chips;
+  lawful = subst (IsAllowed c.args.rail.now) c.loop-at.invariant.at c.loop-at.invariant.lawful;
+}
+
+pub returns-in_default : goal.returns-in_default
+returns-in_default g c =
+    let d = (goal.at.returns-in_default g c).After-toward-pick in
+    let before = c.loop-at.invariant in
+    let stop = c.in_default.ensures in
+    record {
+      there = tt;
+      counted = tt;
+      before_the_end = within_from_rest _ c.loop-at.made (move g d) _ (next_left g d);
+      stopped = rw (stop.same_registers, stop.not_told) before.walked.makes;
+      fault = subst (λ n. Rose n (g.W.Wire.faults c.write_field.new.wire)) before.counted stop.fault;
+      others = λ other apart. stop.others other apart ∙ before.others other apart;
+      chips = stop.chips ∙ before.chips;
+      lawful = subst (IsAllowed c.args.rail.now) (before.at ∙ ap (uv c.args.rail.now) (sym stop.same_registers)) before.lawful;
+    }
+
+pub loop-at-init : goal.loop-at-init
+loop-at-init g c =
+    let moves = moves_to c.args.id c.args.rail.now (uv c.args.rail.now c.args.regs.now) c.args.target in
+    record {
+      walked = walked_none c.args.board.now c.args.rail.now moves c.args.regs.now (g.W.Wire.accepted c.args.wire.now) c.requires.lawful;
+      rest = ap (λ v. moves_to c.args.id c.args.rail.now v c.args.target) c.uv-at.ensures;
+      lawful = rw c.uv-at.ensures c.requires.lawful;
+      at = c.uv-at.ensures;
+      counted = refl;
+      others = λ other apart. refl;
+      chips = refl;
+      bound = omega arith;
+    }
+
+pub toward-pick-requires : goal.toward-pick-requires
+toward-pick-requires g c = record { apart = c.loop-at-test.true; allowed = c.requires.allowed }
+
+pub loop-at-smaller : goal.loop-at-smaller
+loop-at-smaller g c = c.toward-pick.ensures.nearer
