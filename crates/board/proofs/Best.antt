@@ -2,7 +2,7 @@
 use Rattle.std.proofs.Common.{◌≡◌, ℕ, suc, ◌<◌, ◌≤◌, Bool, true, false, cond, leb, List, [], ◌∷◌, Option, Some, None, refl, sym, subst, map, filter, arith}
 use Rattle.std.specs.Prelude.{All, Contains, MatchOption}
 use Rattle.std.specs.Option.{option_map}
-use Rattle.std.proofs.lemmas.Bool.Decides.{nat_tests}
+use Rattle.std.proofs.lemmas.Bool.{leb-true, leb-false}
 use Rattle.std.proofs.lemmas.List.Elements.{All-nil, All-cons, All-weaker}
 use Rattle.linear_range.specs.declared.pick.Pick.{Pick}
 use Rattle.linear_range.specs.Pick.{pair_of}
@@ -20,9 +20,9 @@ abbrev high_law : ℕ → List ℕ → Option (ℕ × ℕ) → Type 0
 high_law u vs o = MatchOption o (All (λ v. v < u) vs) (λ p. IsLeastAbove vs u p.1)
 
 high_passed : (u : ℕ) (q : ℕ × ℕ) (vs : List ℕ) (o : Option (ℕ × ℕ)) → leb u q.1 ≡ false → high_law u vs o → high_law u (q.1 ∷ vs) o
-high_passed u q vs None fails all = All-cons (λ v. v < u) q.1 vs (grind (arith, nat_tests)) all
+high_passed u q vs None fails all = All-cons (λ v. v < u) q.1 vs (leb-false u q.1 fails) all
 high_passed u q vs (Some p) fails best =
-    let outside : q.1 < u = grind (arith, nat_tests) in
+    let outside : q.1 < u = leb-false u q.1 fails in
     record {
       among = later q.1 vs p.1 best.among;
       not_below = best.not_below;
@@ -31,7 +31,7 @@ high_passed u q vs (Some p) fails best =
 
 high_chosen : (u : ℕ) (q p : ℕ × ℕ) (vs : List ℕ) (t : Bool) → leb q.1 p.1 ≡ t → u ≤ q.1 → IsLeastAbove vs u p.1 → IsLeastAbove (q.1 ∷ vs) u (cond {A = ℕ × ℕ} t q p).1
 high_chosen u q p vs true is inside best =
-    let better : q.1 ≤ p.1 = grind (arith, nat_tests) in
+    let better : q.1 ≤ p.1 = leb-true q.1 p.1 is in
     record {
       among = first q.1 vs;
       not_below = inside;
@@ -39,7 +39,7 @@ high_chosen u q p vs true is inside best =
           (All-weaker (λ v. u ≤ v → p.1 ≤ v) (λ v. u ≤ v → q.1 ≤ v) (λ v best_there there. let far = best_there there in omega arith) vs best.no_lesser);
     }
 high_chosen u q p vs false is inside best =
-    let better : p.1 ≤ q.1 = grind (arith, nat_tests) in
+    let better : p.1 ≤ q.1 = omega (arith, leb-false q.1 p.1 is) in
     record {
       among = later q.1 vs p.1 best.among;
       not_below = best.not_below;
@@ -49,11 +49,11 @@ high_chosen u q p vs false is inside best =
 high_taken : (u : ℕ) (q : ℕ × ℕ) (vs : List ℕ) (o : Option (ℕ × ℕ)) → leb u q.1 ≡ true → high_law u vs o → IsLeastAbove (q.1 ∷ vs) u (lesser_pair q o).1
 high_taken u q vs None passes all = record {
   among = first q.1 vs;
-  not_below = grind (arith, nat_tests);
+  not_below = leb-true u q.1 passes;
   no_lesser = All-cons (λ v. u ≤ v → q.1 ≤ v) q.1 vs (λ _. omega arith)
       (All-weaker (λ v. v < u) (λ v. u ≤ v → q.1 ≤ v) (λ v outside inside. absurd (omega arith)) vs all);
 }
-high_taken u q vs (Some p) passes best = let inside : u ≤ q.1 = grind (arith, nat_tests) in high_chosen u q p vs (leb q.1 p.1) refl inside best
+high_taken u q vs (Some p) passes best = let inside : u ≤ q.1 = leb-true u q.1 passes in high_chosen u q p vs (leb q.1 p.1) refl inside best
 
 high_step : (u : ℕ) (q : ℕ × ℕ) (ps : List (ℕ × ℕ)) (vs : List ℕ) (t : Bool) → leb u q.1 ≡ t → high_law u vs (least_pair ps) → high_law u (q.1 ∷ vs) (least_pair (cond t (q ∷ ps) ps))
 high_step u q ps vs true is law = high_taken u q vs (least_pair ps) is law
@@ -73,9 +73,9 @@ abbrev low_law : ℕ → List ℕ → Option (ℕ × ℕ) → Type 0
 low_law u vs o = MatchOption o (All (λ v. u < v) vs) (λ p. IsGreatestBelow vs u p.1)
 
 low_passed : (u : ℕ) (q : ℕ × ℕ) (vs : List ℕ) (o : Option (ℕ × ℕ)) → leb q.1 u ≡ false → low_law u vs o → low_law u (q.1 ∷ vs) o
-low_passed u q vs None fails all = All-cons (λ v. u < v) q.1 vs (grind (arith, nat_tests)) all
+low_passed u q vs None fails all = All-cons (λ v. u < v) q.1 vs (leb-false q.1 u fails) all
 low_passed u q vs (Some p) fails best =
-    let outside : u < q.1 = grind (arith, nat_tests) in
+    let outside : u < q.1 = leb-false q.1 u fails in
     record {
       among = later q.1 vs p.1 best.among;
       not_above = best.not_above;
@@ -84,7 +84,7 @@ low_passed u q vs (Some p) fails best =
 
 low_chosen : (u : ℕ) (q p : ℕ × ℕ) (vs : List ℕ) (t : Bool) → leb p.1 q.1 ≡ t → q.1 ≤ u → IsGreatestBelow vs u p.1 → IsGreatestBelow (q.1 ∷ vs) u (cond {A = ℕ × ℕ} t q p).1
 low_chosen u q p vs true is inside best =
-    let better : p.1 ≤ q.1 = grind (arith, nat_tests) in
+    let better : p.1 ≤ q.1 = leb-true p.1 q.1 is in
     record {
       among = first q.1 vs;
       not_above = inside;
@@ -92,7 +92,7 @@ low_chosen u q p vs true is inside best =
           (All-weaker (λ v. v ≤ u → v ≤ p.1) (λ v. v ≤ u → v ≤ q.1) (λ v best_there there. let far = best_there there in omega arith) vs best.no_greater);
     }
 low_chosen u q p vs false is inside best =
-    let better : q.1 ≤ p.1 = grind (arith, nat_tests) in
+    let better : q.1 ≤ p.1 = omega (arith, leb-false p.1 q.1 is) in
     record {
       among = later q.1 vs p.1 best.among;
       not_above = best.not_above;
@@ -102,11 +102,11 @@ low_chosen u q p vs false is inside best =
 low_taken : (u : ℕ) (q : ℕ × ℕ) (vs : List ℕ) (o : Option (ℕ × ℕ)) → leb q.1 u ≡ true → low_law u vs o → IsGreatestBelow (q.1 ∷ vs) u (greater_pair q o).1
 low_taken u q vs None passes all = record {
   among = first q.1 vs;
-  not_above = grind (arith, nat_tests);
+  not_above = leb-true q.1 u passes;
   no_greater = All-cons (λ v. v ≤ u → v ≤ q.1) q.1 vs (λ _. omega arith)
       (All-weaker (λ v. u < v) (λ v. v ≤ u → v ≤ q.1) (λ v outside inside. absurd (omega arith)) vs all);
 }
-low_taken u q vs (Some p) passes best = let inside : q.1 ≤ u = grind (arith, nat_tests) in low_chosen u q p vs (leb p.1 q.1) refl inside best
+low_taken u q vs (Some p) passes best = let inside : q.1 ≤ u = leb-true q.1 u passes in low_chosen u q p vs (leb p.1 q.1) refl inside best
 
 low_step : (u : ℕ) (q : ℕ × ℕ) (ps : List (ℕ × ℕ)) (vs : List ℕ) (t : Bool) → leb q.1 u ≡ t → low_law u vs (greatest_pair ps) → low_law u (q.1 ∷ vs) (greatest_pair (cond t (q ∷ ps) ps))
 low_step u q ps vs true is law = low_taken u q vs (greatest_pair ps) is law

@@ -48,6 +48,15 @@ module _ (r : LinearRange) where
       let less : k ≤ steps_to sel = le_of_mul-le-mul_right same pos in
       omega (arith, m.from)
 
+  -- up to the greatest value there are no more steps than selectors
+  pub steps_within : (u : ℕ) → 0 < r.step → u ≤ greatest_of r → div_ceil (u - r.min) r.step ≤ r.max_sel - r.min_sel
+  steps_within u pos within = div_ceil-least (u - r.min) r.step (r.max_sel - r.min_sel) pos (omega arith)
+
+  pub whole_steps_within : (u : ℕ) → 0 < r.step → u ≤ greatest_of r → (u - r.min) / r.step ≤ r.max_sel - r.min_sel
+  whole_steps_within u pos within =
+      let whole : (u - r.min) / r.step * r.step ≤ (r.max_sel - r.min_sel) * r.step = omega (arith, div-mul-le_self (u - r.min) r.step) in
+      le_of_mul-le-mul_right whole pos
+
   value_at : (ok : ℕ → Bool) (le : ℕ → ℕ → Bool) (sel uv : ℕ) (o : Option (ℕ × ℕ)) → Some (sel, uv) ≡ o
       → BestOf ok le (HasValue (r ∷ [])) o → value_in r sel ≡ option_map (λ p. p.1) o
   value_at ok le sel uv None e b = cc

@@ -32,8 +32,7 @@ impl Row {
         let line = self.line;
         let call = call_text(alloc, board, &self.call)?;
         let answer = answer_text(alloc, board, &self.answer)?;
-        let text = format!(in alloc; "{worker} {line} {call} -> {answer}")?;
-        let ended = format!(in alloc; "{text}\n")?;
-        out.extend_from_slice(ended.as_bytes())
+        let text = format!(in alloc; "{worker} {line} {call} -> {answer}\n")?;
+        out.extend_from_slice(text.as_bytes())
     }
 }

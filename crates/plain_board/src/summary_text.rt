@@ -35,8 +35,7 @@ fn rail_text(
     let uv = rail.uv(&plain.regs);
     let used = use_count(board, plain, id);
     let enabled = enables(plain, id);
-    let text = format!(in alloc; "rail {name} {state} {uv} normal use {used} enables {enabled}")?;
-    format!(in alloc; "{text}\n")
+    format!(in alloc; "rail {name} {state} {uv} normal use {used} enables {enabled}\n")
 }
 
 /// The lines of all rails, in their order.
@@ -60,8 +59,7 @@ fn rails_text(alloc: Global, board: &Board, plain: &Plain) -> Result<String, All
 fn done_text(alloc: Global, workers: u16, rows: u32) -> Result<String, AllocError>
     ensures { IfOk result (λ text. string_bytes text ≡ ended (spaced (codes "done" ∷ decimal workers ∷ decimal rows ∷ []))) }
 {
-    let done = format!(in alloc; "done {workers} {rows}")?;
-    format!(in alloc; "{done}\n")
+    format!(in alloc; "done {workers} {rows}\n")
 }
 
 /// Appends where each rail stands, with its counts, and how many workers and rows there were.

@@ -3,7 +3,7 @@ use Rattle.std.proofs.Common.{◌≡◌, ◌≢◌, ℕ, ◌*◌, ◌^◌, ◌<�
 use Rattle.std.specs.Int.{bit_at, IsBitSet}
 use Rattle.std.specs.List.{list_all, AllPass, slice_get}
 use Rattle.std.specs.Prelude.{Some}
-use Rattle.std.proofs.lemmas.Bool.{and_parts, eqb-true, cases_eq}
+use Rattle.std.proofs.lemmas.Bool.{and_parts, eqb-true, cases_eq, cases_order}
 use Rattle.std.proofs.lemmas.List.Sums.{AllPass-from_list_all}
 use Rattle.std.proofs.lemmas.Nat.Bits.{bit_at_and, bit_at-lt, bit_at-zero, and_pow}
 use Rattle.std.proofs.lemmas.Option.{slice_get_within, get_or_from_slice_get}
@@ -48,7 +48,7 @@ passes p fields k f tested at =
     subst (λ (g : Field). p g ≡ true) (get_or_from_slice_get fields k f f at) (passed k f (slice_get_within fields k f at))
 
 later : (fields : List Field) (i j : ℕ) (f g : Field) → all_apart fields ≡ true → i < j → slice_get fields i ≡ Some f → slice_get fields j ≡ Some g → apart f g ≡ true
-later [] i j f g tested rises at_i at_j = absurd (cc)
+later [] i j f g tested rises at_i at_j = absurd (omega (arith, slice_get_within [] i f at_i))
 later (x ∷ xs) zero zero f g tested rises at_i at_j = absurd (omega arith)
 later (x ∷ xs) zero (suc j) f g tested rises at_i at_j =
     let first : x ≡ f = cc in
@@ -59,6 +59,8 @@ later (x ∷ xs) (suc i) (suc j) f g tested rises at_i at_j =
 
 pub none_clash : (fields : List Field) → all_apart fields ≡ true → NoneClash fields
 none_clash fields tested i j f g other at_i at_j shared =
-    let below : i < j → ⊥ = λ rises. unshared f g (later fields i j f g tested rises at_i at_j) shared in
-    let above : j < i → ⊥ = λ falls. unshared g f (later fields j i g f tested falls at_j at_i) (turned f g shared) in
-    other (omega (arith, below, above))
+    elim (cases_order i j) [
+      | inl same ↦ other same
+      | inr (inl rises) ↦ unshared f g (later fields i j f g tested rises at_i at_j) shared
+      | inr (inr falls) ↦ unshared g f (later fields j i g f tested falls at_j at_i) (turned f g shared)
+    ]
