@@ -1,11 +1,28 @@
-//! The tests of boards and their parts: rails, chips, and the printed lines of calls and of where rails stand.
+//! The tests of all that stands below the command: each public call once with ample memory, the data sheets of
+//! the chips, and the printed lines of calls and of where rails stand.
 #![tactic(auto)]
 
 #[cfg(test)]
 mod chips;
 #[cfg(test)]
+mod items;
+#[cfg(test)]
 mod lines;
+#[cfg(test)]
+mod lists;
+#[cfg(test)]
+mod modes;
+#[cfg(test)]
+mod outside;
 #[cfg(test)]
 mod rails;
 #[cfg(test)]
+mod ranges;
+#[cfg(test)]
+mod registers;
+#[cfg(test)]
 mod same;
+#[cfg(test)]
+mod times;
+#[cfg(test)]
+mod tokens;
