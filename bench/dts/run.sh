@@ -1,6 +1,6 @@
 #!/usr/bin/env bash
 # Times the reading of devicetree texts of 0.25, 1 and 4 MiB, an ordinary one and others that are
-# meant to be slow: our dts_count, and Debian's dtc (device-tree-compiler) where it is installed.
+# meant to be slow: our part_runs, and Debian's dtc (device-tree-compiler) where it is installed.
 # Prints seconds, the best of three runs, and how the time grows from 1 to 4 MiB.
 set -euo pipefail
 
@@ -25,7 +25,7 @@ timed() {
     echo "$best"
 }
 
-count() { "$top/crates/dts_count/out/dts_count" <"$1"; }
+count() { "$top/crates/part_runs/out/part_runs" count <"$1"; }
 compile() { timeout 60 dtc -q -I dts -O dtb -o /dev/null "$1"; }
 
 # One line of a table: the times at the three sizes and the growth.
@@ -37,7 +37,7 @@ row() {
     function seconds(ns) { return ns == "-" ? "-" : sprintf("%.3f", ns / 1e9) }'
 }
 
-(cd "$top/crates/dts_count" && rt run </dev/null >/dev/null)
+(cd "$top/crates/part_runs" && rt run -- count </dev/null >/dev/null)
 if ! command -v dtc >/dev/null; then
     echo "dtc is skipped: it is not there (apt-get install device-tree-compiler)"
 fi
@@ -46,7 +46,7 @@ for kind in ordinary siblings properties scattered labels reopened added deep na
     for bytes in 262144 1048576 4194304; do
         awk -v kind=$kind -v bytes=$bytes -f "$here/texts.awk" >"$work/$bytes.dts"
     done
-    row dts_count $kind "$(timed count "$work/262144.dts")" "$(timed count "$work/1048576.dts")" \
+    row part_runs $kind "$(timed count "$work/262144.dts")" "$(timed count "$work/1048576.dts")" \
         "$(timed count "$work/4194304.dts")"
     if command -v dtc >/dev/null; then
         row dtc $kind "$(timed compile "$work/262144.dts")" "$(timed compile "$work/1048576.dts")" \

@@ -1,4 +1,4 @@
-/* The look-ups of crates/range_bench, over Linux's own lib/linear_ranges.c in user space.
+/* The look-ups of crates/part_runs, over Linux's own lib/linear_ranges.c in user space.
  * Built by run.sh, which hands over stubs for the kernel's headers. */
 #include <stdbool.h>
 #include <stdint.h>

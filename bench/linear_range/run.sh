@@ -11,6 +11,8 @@ top=$(cd "$here/../.." && pwd)
 work=$(mktemp -d)
 trap 'rm -rf "$work"' EXIT
 
+ours() { echo "$1" | "$top/crates/part_runs/out/part_runs" ranges; }
+
 # Prints the best of five runs in ns a round, less what a run of no rounds takes, and the sum.
 timed() {
     local best=0 idle=0 started ended took
@@ -29,8 +31,8 @@ timed() {
         'BEGIN { printf "%-8s %8.1f ns a round   sum %s\n", name, ns / rounds, sum }'
 }
 
-(cd "$top/crates/range_bench" && rt run -- 0 >/dev/null)
-timed "$top/crates/range_bench/out/range_bench" ours
+(cd "$top/crates/part_runs" && rt run -- ranges </dev/null >/dev/null)
+timed ours ours
 
 source=${LINUX_SOURCE:-/usr/src/linux-source-6.12.tar.xz}
 if [ ! -e "$source" ]; then

@@ -1,13 +1,11 @@
-//! The tests of all that stands below the command: each public call once with ample memory, the data sheets of
-//! the chips, and the printed lines of calls and of where rails stand.
+//! The tests of all that stands below the command: each public call once with ample memory, and the data
+//! sheets of the chips.
 #![tactic(auto)]
 
 #[cfg(test)]
 mod chips;
 #[cfg(test)]
 mod items;
-#[cfg(test)]
-mod lines;
 #[cfg(test)]
 mod lists;
 #[cfg(test)]

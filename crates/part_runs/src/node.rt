@@ -3,8 +3,26 @@ ghost use Rattle.std.specs.Prelude.{◌<◌, length};
 use dts_tree::{Cell, Tree};
 use std::alloc::{AllocError, Global};
 
+/// Appends each node.
+pub(crate) fn write_nodes(line: &mut String, tree: &Tree) -> Result<(), AllocError> {
+    for node in 0..tree.count() {
+        write_node(line, tree, node)?;
+    }
+    Ok(())
+}
+
+/// Appends how many tokens there are, and nodes and properties of the tree.
+pub(crate) fn write_count(line: &mut String, tree: &Tree, tokens: usize) -> Result<(), AllocError> {
+    let nodes = tree.count();
+    let properties = tree.property_count();
+    write!(
+        line,
+        "tokens {tokens} nodes {nodes} properties {properties}"
+    )
+}
+
 /// Appends a node as its name, its place and its parent.
-pub(crate) fn write_node(line: &mut String, tree: &Tree, node: u32) -> Result<(), AllocError>
+fn write_node(line: &mut String, tree: &Tree, node: u32) -> Result<(), AllocError>
     requires { node < length tree.now.nodes }
 {
     push_bytes(line, tree.name(node))?;

@@ -1,22 +1,15 @@
-//! Tries the readers of devicetree text on a table: the standard input has a row a line, a text with what is
-//! found in it, and each row that differs is printed with what was found.
-#![tactic(auto)]
-
-mod escapes;
-mod found;
-mod node;
-mod row;
-
-use row::differing;
+use crate::row::differing;
 use std::alloc::Global;
 use std::io;
 
-fn main(rt: HostRuntime) -> io::Result<()> {
+/// The standard input has a row a line, a text with what is found in it. Prints each row that differs, with what
+/// was found.
+pub(crate) fn rows(rt: &(impl Input + Print + Alloc<A = Global>)) -> io::Result<()> {
     let mut rows = 0_u64;
     let mut differ = 0_u64;
     for line in rt.lines(rt.alloc()) {
         rows = rows.saturating_add(1);
-        if tell(&rt, line?.as_str())? {
+        if tell(rt, line?.as_str())? {
             differ = differ.saturating_add(1);
         }
     }

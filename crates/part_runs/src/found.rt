@@ -1,20 +1,22 @@
 ghost use Rattle.std.specs.Prelude.{◌≡◌, ◌≤◌, length};
 ghost use Rattle.dts_lex.specs.Lex.{lexed};
 
-use crate::node::{write_node, write_values};
+use crate::node::{write_count, write_nodes, write_values};
 use dts_lex::{Kind, Token, is_last, lex};
-use dts_tree::{Tree, parse};
+use dts_tree::parse;
 use std::alloc::{AllocError, Global};
 
 /// What a row asks of its text.
 #[derive(Clone, Copy)]
-pub(crate) enum Asked {
+pub(crate) enum Asked<'a> {
     /// Its tokens.
     Tokens,
     /// The nodes of its tree.
     Tree,
-    /// The values of a property of its root.
-    Values,
+    /// How many tokens, nodes and properties it has.
+    Count,
+    /// The values of this property of its root.
+    Values(&'a str),
     /// How long each beginning of it is that has a tree.
     Prefixes,
 }
@@ -23,9 +25,8 @@ pub(crate) enum Asked {
 pub(crate) fn write_found(
     alloc: Global,
     line: &mut String,
-    asked: Asked,
+    asked: Asked<'_>,
     text: &[u8],
-    property: &str,
 ) -> Result<(), AllocError> {
     if text.len() > 4_294_967_295 {
         return line.push_str("TooLong");
@@ -36,14 +37,7 @@ pub(crate) fn write_found(
     match lex(alloc, text) {
         Ok(tokens) => match asked {
             Asked::Tokens => write_tokens(line, text, tokens.as_slice()),
-            Asked::Tree | Asked::Prefixes => write_parsed(
-                alloc,
-                line,
-                text,
-                tokens.as_slice(),
-                None,
-            ),
-            Asked::Values => write_parsed(alloc, line, text, tokens.as_slice(), Some(property)),
+            _ => write_parsed(alloc, line, asked, text, tokens.as_slice()),
         },
         Err(fault) => write!(line, "{fault:?}"),
     }
@@ -93,36 +87,23 @@ fn letter_of(kind: Kind) -> char {
     }
 }
 
-/// Appends the values of the root's property that is asked for, or else each node, of the tree of a text.
+/// Appends what is asked of the tree of a text.
 fn write_parsed(
     alloc: Global,
     line: &mut String,
+    asked: Asked<'_>,
     text: &[u8],
     tokens: &[Token],
-    property: Option<&str>,
 ) -> Result<(), AllocError>
     requires short { length text.now ≤ 4294967295 }
     requires lexed { lexed text.now ≡ Ok tokens.now }
 {
     match parse(alloc, text, tokens) {
-        Ok(tree) => write_tree(alloc, line, &tree, property),
+        Ok(tree) => match asked {
+            Asked::Values(property) => write_values(alloc, line, &tree, property.as_bytes()),
+            Asked::Count => write_count(line, &tree, tokens.len()),
+            _ => write_nodes(line, &tree),
+        },
         Err(fault) => write!(line, "{fault:?}"),
-    }
-}
-
-fn write_tree(
-    alloc: Global,
-    line: &mut String,
-    tree: &Tree,
-    property: Option<&str>,
-) -> Result<(), AllocError> {
-    match property {
-        Some(property) => write_values(alloc, line, tree, property.as_bytes()),
-        None => {
-            for node in 0..tree.count() {
-                write_node(line, tree, node)?;
-            }
-            Ok(())
-        }
     }
 }

@@ -5,38 +5,32 @@ use std::alloc::{AllocError, Global};
 /// A row of the table, as it stands there.
 #[derive(Clone, Copy)]
 struct Row<'a> {
-    asked: Asked,
+    asked: Asked<'a>,
     text: &'a str,
-    property: &'a str,
     expected: &'a str,
 }
 
-/// A row is `tokens TEXT -> EXPECTED`, `tree TEXT -> EXPECTED`, `prefixes TEXT -> EXPECTED` or
-/// `values TEXT -> PROPERTY -> EXPECTED`.
+/// A row is `tokens TEXT -> EXPECTED`, `tree TEXT -> EXPECTED`, `count TEXT -> EXPECTED`,
+/// `prefixes TEXT -> EXPECTED` or `values TEXT -> PROPERTY -> EXPECTED`.
 fn read(line: &str) -> Option<Row<'_>> {
     let (word, rest) = line.split_once(' ')?;
     let (text, rest) = rest.split_once(" -> ")?;
-    let asked = asked_by(word)?;
-    let (property, expected) = match asked {
-        Asked::Values => rest.split_once(" -> ")?,
-        _ => ("", rest),
+    let (asked, expected) = match word {
+        "tokens" => (Asked::Tokens, rest),
+        "tree" => (Asked::Tree, rest),
+        "count" => (Asked::Count, rest),
+        "prefixes" => (Asked::Prefixes, rest),
+        "values" => {
+            let (property, expected) = rest.split_once(" -> ")?;
+            (Asked::Values(property), expected)
+        }
+        _ => return None,
     };
     Some(Row {
         asked,
         text,
-        property,
         expected,
     })
-}
-
-fn asked_by(word: &str) -> Option<Asked> {
-    match word {
-        "tokens" => Some(Asked::Tokens),
-        "tree" => Some(Asked::Tree),
-        "prefixes" => Some(Asked::Prefixes),
-        "values" => Some(Asked::Values),
-        _ => None,
-    }
 }
 
 /// What was found, where it isn't what the row expects.
@@ -55,7 +49,7 @@ pub(crate) fn differing(alloc: Global, line: &str) -> Result<Option<String>, All
 /// Appends what is found, and answers whether it is what the row expects.
 fn write_row(alloc: Global, found: &mut String, row: &Row<'_>) -> Result<bool, AllocError> {
     let text = unescaped(alloc, row.text)?;
-    write_found(alloc, found, row.asked, text.as_slice(), row.property)?;
+    write_found(alloc, found, row.asked, text.as_slice())?;
     let expected = unescaped(alloc, row.expected)?;
     Ok(found.as_str().trim_end().as_bytes() == expected.as_slice())
 }

@@ -1,9 +1,6 @@
-//! Looks voltages up in a table of two ranges, as many as its argument says, and prints a sum over
-//! the answers. `bench/linear_range/run.sh` times it.
-#![tactic(auto)]
-
 use linear_range::{LinearRange, RangeTable};
-use std::{env, io};
+use std::alloc::Global;
+use std::io;
 
 /// The voltages go round from `LOWEST` µV by `STRIDE`, up to below `END`.
 const LOWEST: u32 = 600000;
@@ -28,12 +25,14 @@ const BUCK: [LinearRange; 2] = [
     },
 ];
 
-fn main(rt: HostRuntime) -> io::Result<()> {
-    let asked = env::args(&rt)?.nth(1);
-    let rounds = asked.and_then(|text| text.parse().ok()).unwrap_or(0);
+/// Looks voltages up in a table of two ranges, as many as each line of the standard input says, and prints a sum
+/// over the answers.
+pub(crate) fn ranges(rt: &(impl Input + Print + Alloc<A = Global>)) -> io::Result<()> {
     if let Ok(table) = RangeTable::<8>::new(&BUCK) {
-        let sum = looked_up(&table, rounds);
-        println!(rt; "{sum}")?;
+        for line in rt.lines(rt.alloc()) {
+            let sum = looked_up(&table, line?.parse().unwrap_or(0));
+            println!(rt; "{sum}")?;
+        }
     }
     Ok(())
 }

@@ -1,0 +1,34 @@
+//! Runs parts that no command uses so far. `rows` tries the readers of devicetree text on a table, `count` counts
+//! what a devicetree text has, and `ranges` looks voltages up; `bench` times the last two.
+#![tactic(auto)]
+
+mod count;
+mod escapes;
+mod found;
+mod node;
+mod ranges;
+mod row;
+mod rows;
+
+use count::count;
+use ranges::ranges;
+use rows::rows;
+use std::alloc::Global;
+use std::{env, io};
+
+fn main(rt: HostRuntime) -> io::Result<()> {
+    match env::args(&rt)?.nth(1) {
+        Some(word) => run(&rt, word.as_str()),
+        None => run(&rt, ""),
+    }
+}
+
+/// Runs what the word names over the standard input.
+fn run(rt: &(impl Input + Print + Alloc<A = Global>), word: &str) -> io::Result<()> {
+    match word {
+        "rows" => rows(rt),
+        "count" => count(rt),
+        "ranges" => ranges(rt),
+        _ => println!(rt; "usage: part_runs rows|count|ranges"),
+    }
+}
