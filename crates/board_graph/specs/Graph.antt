@@ -1,5 +1,5 @@
 -- How the rails of a board supply each other, and which move together.
-use Rattle.std.specs.Prelude.{ℕ, ◌≡◌, ◌≢◌, ◌<◌, ◌≤◌, ◌==◌, List, map, filter, length, All, slice_get, Option, Some, IfSome}
+use Rattle.std.specs.Prelude.{ℕ, ◌≡◌, ◌≢◌, ◌<◌, ◌≤◌, ◌==◌, List, map, filter, length, All, slice_get, Some, IfSome}
 use Rattle.std.specs.List.{enumerate_from}
 use Rattle.board_graph.specs.declared.graph.Graph.{Graph}
 use Rattle.board_graph.specs.Ways.{Leads}

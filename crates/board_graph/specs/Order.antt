@@ -1,5 +1,5 @@
 -- The order in which the rails of a board come up.
-use Rattle.std.specs.Prelude.{ℕ, ◌≡◌, ◌<◌, List, length, take, slice_get, Some, flat_map, Contains}
+use Rattle.std.specs.Prelude.{ℕ, ◌≡◌, ◌<◌, List, take, slice_get, Some, flat_map, Contains}
 use Rattle.board_graph.specs.declared.graph.Graph.{Graph}
 use Rattle.board_graph.specs.Graph.{count_of, Supplies, AreOneBlock, members}
 

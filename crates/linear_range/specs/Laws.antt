@@ -1,5 +1,5 @@
 -- What holds of every table, in words that do not go through its ranges.
-use Rattle.std.specs.Prelude.{◌≡◌, ℕ, ◌^◌, ◌<◌, ◌≤◌, ◌↔◌, List, Option, Some, MatchOption}
+use Rattle.std.specs.Prelude.{◌≡◌, ℕ, ◌^◌, ◌<◌, ◌≤◌, ◌↔◌, List, Some, MatchOption}
 use Rattle.std.specs.List.{All, AllPairs, Contains}
 use Rattle.linear_range.specs.declared.linear_range.LinearRange.{LinearRange}
 use Rattle.linear_range.specs.Values.{value_of, values, pick_high, pick_low}

@@ -1,15 +1,13 @@
 -- Lines worked out by hand: what the definitions of the text make of calls, answers and rails.
-use Rattle.std.specs.Prelude.{ℕ, ◌≡◌, true, false, [], ◌∷◌, ◌++◌, codes}
+use Rattle.std.specs.Prelude.{◌≡◌, true, false, [], ◌∷◌, ◌++◌, codes}
 use Rattle.std.specs.Fmt.{digits}
-use Rattle.std.proofs.Common.{refl, ap}
+use Rattle.std.proofs.Common.{refl}
 use Rattle.arrayvec.specs.ArrayString.{ArrayString}
 use Rattle.board.specs.declared.board.Board.{Board}
 use Rattle.board.specs.declared.rail.Rail.{Rail}
 use Rattle.board.specs.declared.rail_id.RailId.{RailId}
 use Rattle.board.specs.Rail.{uv, is_on}
-use Rattle.plain_board.specs.declared.answer.Answer.{Answer}
 use Rattle.plain_board.specs.declared.answer.Answer.TheVariants.{Ok, OkSet, OkUv, BadRange, NoValue, NoHandle, Fault}
-use Rattle.plain_board.specs.declared.call.Call.{Call}
 use Rattle.plain_board.specs.declared.call.Call.TheVariants.{Open, Set, Get}
 use Rattle.plain_board.specs.declared.handle_row.HandleRow.{HandleRow}
 use Rattle.plain_board.specs.declared.plain.Plain.{Plain}
