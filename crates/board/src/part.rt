@@ -1,5 +1,5 @@
 /// A part of a rail that has a register field of its own.
-#[derive(Clone, Copy, PartialEq, Eq)]
+#[derive(Clone, Copy)]
 pub enum Part {
     /// Which value the rail has.
     Selector,

@@ -1,7 +1,7 @@
 use chip_regs::Bits;
 
 /// One masked update of a register. `bits` stand at the mask's place.
-#[derive(Clone, Copy, PartialEq, Eq)]
+#[derive(Clone, Copy)]
 pub struct Write {
     pub chip: u8,
     pub reg: u8,

@@ -6,12 +6,15 @@ use std::process::Abort;
 use std::test::Fail;
 use voltage_table::{ListFault, ListPick, VoltList, laws_of};
 
-const FIVE: Option<ListPick> = Some(ListPick { sel: 0, uv: 5 });
+/// What is picked, as selector and µV.
+type Picked = Option<(u16, u32)>;
 
-const THREE: Option<ListPick> = Some(ListPick { sel: 1, uv: 3 });
+const FIVE: Picked = Some((0, 5));
+
+const THREE: Picked = Some((1, 3));
 
 /// µV, the pick from above, the pick from below.
-const PICKS: &[(u32, Option<ListPick>, Option<ListPick>)] = &[
+const PICKS: &[(u32, Picked, Picked)] = &[
     (2, THREE, None),
     (3, THREE, THREE),
     (4, FIVE, THREE),
@@ -19,12 +22,23 @@ const PICKS: &[(u32, Option<ListPick>, Option<ListPick>)] = &[
     (6, None, FIVE),
 ];
 
+fn picked(pick: Option<ListPick>) -> Picked {
+    match pick {
+        Some(pick) => Some((pick.sel, pick.uv)),
+        None => None,
+    }
+}
+
 #[test]
 fn repeated_values(rt: HostRuntime) -> Result<(), Fail> {
     let list = VoltList::<32>::new(&[5, 3, 5, 3])?;
     for &(uv, high, low) in PICKS {
-        assert_same(&rt, "not below", (uv, list.selector_high(uv)), (uv, high));
-        assert_same(&rt, "not above", (uv, list.selector_low(uv)), (uv, low));
+        let found = (
+            uv,
+            picked(list.selector_high(uv)),
+            picked(list.selector_low(uv)),
+        );
+        assert_same(&rt, "picks", found, (uv, high, low));
     }
     laws_of(&list);
     assert_same(&rt, "count", list.count(), 4);

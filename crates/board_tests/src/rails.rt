@@ -215,9 +215,9 @@ fn assert_allowed(rt: &impl Abort, board: &Board) {
 }
 
 fn assert_fields(rt: &impl Abort, board: &Board) {
-    let selector = Some(field(0x10, 0x7f));
+    let selector = Some((0x10, 0x7f));
     assert_field(rt, board, 0, Part::Selector, selector);
-    let enable = Some(field(0x20, 0x01));
+    let enable = Some((0x20, 0x01));
     assert_field(rt, board, 1, Part::Enable, enable);
     assert_field(rt, board, 1, Part::ModePart, None);
 }
@@ -238,8 +238,12 @@ fn assert_picks_at(rt: &impl Abort, board: &Board, place: u16, above: Picked, be
     assert_same(rt, "below", (place, found), (place, below));
 }
 
-fn assert_field(rt: &impl Abort, board: &Board, place: u16, part: Part, field: Option<Field>) {
-    let found = board.field(rail_at(rt, board, place), part);
+/// The register and the mask of a part of a rail.
+fn assert_field(rt: &impl Abort, board: &Board, place: u16, part: Part, field: Option<(u8, u8)>) {
+    let found = match board.field(rail_at(rt, board, place), part) {
+        Some(field) => Some((field.reg, field.mask)),
+        None => None,
+    };
     assert_same(rt, "field", (place, found), (place, field));
 }
 

@@ -37,5 +37,7 @@ fn times_of_known_changes(rt: HostRuntime) {
         let found = time(&times(ramp, settle, up, down), desc_ramp, from, to);
         assert_same(&rt, "µs", (from, to, found), (from, to, delay));
     }
-    assert_same(&rt, "default", Times::default(), times(0, 0, 0, 0));
+    let none = Times::default();
+    let found = (none.ramp, none.settle, none.up, none.down);
+    assert_same(&rt, "default", found, (0, 0, 0, 0));
 }

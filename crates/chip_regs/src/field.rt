@@ -6,7 +6,7 @@ pub type Bits = u8;
 /// Neighbouring bits of one register that hold a number together, as a data sheet names them.
 ///
 /// The bits 4 to 6 of a register are the mask 0x70 at the shift 4.
-#[derive(Clone, Copy, Debug, PartialEq, Eq)]
+#[derive(Clone, Copy)]
 pub struct Field {
     /// The chip, by its place on the board.
     pub chip: u8,

@@ -1,7 +1,7 @@
 use std::alloc::AllocFailed;
 
 /// Why a text has no tokens. Each place is the index of a byte.
-#[derive(Clone, Copy, Debug, PartialEq, Eq)]
+#[derive(Clone, Copy, Debug)]
 pub enum LexFault {
     /// A byte that begins no token, a byte or an escape that may not stand in a string, or the
     /// first byte of a malformed number.

@@ -1,5 +1,5 @@
 /// What a token is.
-#[derive(Clone, Copy, Debug, PartialEq, Eq)]
+#[derive(Clone, Copy)]
 pub enum Kind {
     /// A run of letters, digits and `, . _ + - ? # @`: a name, a label, hexadecimal bytes.
     Word,
@@ -16,7 +16,7 @@ pub enum Kind {
 }
 
 /// A token and the bytes of the text that it is: from `start` to before `end`.
-#[derive(Clone, Copy, Debug, PartialEq, Eq)]
+#[derive(Clone, Copy)]
 pub struct Token {
     pub kind: Kind,
     pub start: u32,

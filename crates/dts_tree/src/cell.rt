@@ -1,5 +1,5 @@
 /// A cell of a property's value.
-#[derive(Clone, Copy, Debug, PartialEq, Eq)]
+#[derive(Clone, Copy)]
 pub enum Cell {
     /// A number.
     Num(u32),

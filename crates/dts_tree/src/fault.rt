@@ -1,7 +1,7 @@
 use std::alloc::{AllocError, AllocFailed};
 
 /// Why tokens are no tree. Each place is the index of a byte.
-#[derive(Clone, Copy, Debug, PartialEq, Eq)]
+#[derive(Clone, Copy, Debug)]
 pub enum TreeFault {
     /// The first token that can't follow those before it, or the end of the text where one is wanted.
     Syntax(u32),

@@ -10,7 +10,7 @@ use crate::Pick;
 /// Selectors `min_sel` to `max_sel` in a row: the first has `min` µV, each next one `step` µV more.
 ///
 /// The range 600000 µV from selector 0 to 127 by 6250 µV ends at 1393750 µV.
-#[derive(Clone, Copy, Debug, Default, PartialEq, Eq)]
+#[derive(Clone, Copy, Default)]
 pub struct LinearRange {
     /// The value of `min_sel`, in µV.
     pub min: u32,

@@ -3,7 +3,7 @@ ghost use Rattle.std.specs.Option.{option_map};
 ghost use Rattle.linear_range.specs.Pick.{pair_of, lesser_of, greater_of};
 
 /// A selector of a table, with its value.
-#[derive(Clone, Copy, Debug, PartialEq, Eq)]
+#[derive(Clone, Copy)]
 pub struct Pick {
     pub sel: u16,
     /// In µV.

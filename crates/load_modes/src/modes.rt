@@ -4,7 +4,7 @@ use bitflags::{Flag, Flags, bitflag_items};
 
 /// A set of modes, as `regulator-allowed-modes` gives one. The bits are those of Linux's
 /// `REGULATOR_MODE_FAST` to `REGULATOR_MODE_STANDBY` in `include/linux/regulator/consumer.h`.
-#[derive(Clone, Copy, Debug, PartialEq, Eq)]
+#[derive(Clone, Copy)]
 pub struct Modes(u8);
 
 bitflag_items! {

@@ -4,7 +4,7 @@ ghost use Rattle.ramp_delay.specs.Times.{ramp_of, time_of, IsLeastTime};
 
 /// What a rail's constraints say of the time that a change of its voltage takes. A 0 is as if the
 /// property were not given.
-#[derive(Clone, Copy, Debug, Default, PartialEq, Eq)]
+#[derive(Clone, Copy, Default)]
 pub struct Times {
     /// How fast the voltage moves, in µV a µs (`regulator-ramp-delay`).
     pub ramp: u32,

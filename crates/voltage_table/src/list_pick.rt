@@ -4,7 +4,7 @@ ghost use Rattle.voltage_table.specs.Values.{lesser_pair, greater_pair};
 ghost use Rattle.voltage_table.specs.ListPick.{pair_of};
 
 /// A selector of a list, with its value.
-#[derive(Clone, Copy, Debug, PartialEq, Eq)]
+#[derive(Clone, Copy)]
 pub struct ListPick {
     pub sel: u16,
     /// In µV.
