@@ -24,11 +24,11 @@ fn main(rt: HostRuntime) -> io::Result<()> {
 }
 
 /// Runs what the word names over the standard input.
-fn run(rt: &(impl Input + Print + Alloc<A = Global>), word: &str) -> io::Result<()> {
+fn run(rt: &(impl Input + Print + Eprint + Alloc<A = Global>), word: &str) -> io::Result<()> {
     match word {
         "rows" => rows(rt),
         "count" => count(rt),
         "ranges" => ranges(rt),
-        _ => println!(rt; "usage: part_runs rows|count|ranges"),
+        _ => eprintln!(rt; "usage: part_runs rows|count|ranges"),
     }
 }
