@@ -3,7 +3,7 @@ use Rattle.std.proofs.Common.{◌≡◌, ℕ, zero, suc, List, [], ◌∷◌, �
 use Rattle.std.specs.Prelude.{nat_eq, IfSome}
 use Rattle.std.specs.List.{AllByRecursion}
 use Rattle.std.specs.Map.{lookup}
-use Rattle.indexmap.specs.IndexMap.{insert_entry}
+use Rattle.ordered_map.specs.Entries.{insert_entry}
 use Rattle.dts_tree.specs.declared.said.Said.{Said}
 use Rattle.dts_tree.specs.declared.said.Said.TheVariants.{Label, Root, Node, Add, Leave, Property}
 use Rattle.dts_tree.specs.declared.fault.TreeFault.{TreeFault}

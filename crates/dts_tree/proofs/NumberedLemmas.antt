@@ -1,8 +1,7 @@
 -- A new key behind keys that tell all nodes apart.
-use Rattle.std.proofs.Common.{◌≡◌, ℕ, ◌+◌, ◌-◌, ◌<◌, ◌≤◌, List, [], ◌∷◌, ◌++◌, Bool, true, false, ◌&&◌, cond, inl, inr, length, get_or, Some, None, nat_lt, refl, sym, ap, ◌∙◌, subst, nat_eq, not, add-one, take, arith}
+use Rattle.std.proofs.Common.{◌≡◌, ℕ, suc, ◌+◌, ◌-◌, ◌<◌, ◌≤◌, List, [], ◌∷◌, ◌++◌, Bool, true, false, ◌&&◌, cond, inl, inr, length, get_or, Some, None, nat_lt, refl, sym, ap, ◌∙◌, subst, nat_eq, not, add-one, take, arith}
 use Rattle.std.proofs.Math.Logic.{⊎_elim}
-use Rattle.std.proofs.Math.Seq.{take-append_seam}
-use Rattle.std.specs.List.{position_or_len, position, list_any}
+use Rattle.std.specs.List.{position_or_len, position}
 use Rattle.std.specs.Cmp.Lexicographic.{pointwise}
 use Rattle.std.proofs.lemmas.Bool.{cases_eq, cases_lt, lt-ltb, le-ltb, or_parts, cases_Bool, cond-true, cond-false, false_from_ne_true, eq-eqb, ne_eqb, and_left, and_right}
 use Rattle.std.proofs.lemmas.List.{get_or_append_left, get_or_push, length_push, map-append, get_or-map, length-map, get_or_read}
@@ -10,7 +9,11 @@ use Rattle.std.proofs.lemmas.List.Folds.{position_or_len_push}
 use Rattle.std.proofs.lemmas.List.Sums.{position_or_len_is, prefix_len-le-length}
 use Rattle.std.proofs.lemmas.Slice.Eq.{bytes_eq-Decides}
 use Rattle.dts_tree.specs.Path.{number_of, with_path, paths_behind, paths_of}
-use Rattle.dts_tree.specs.Numbered.{same_key, Paths, Numbered}
+use Rattle.std.specs.Option.{option_map}
+use Rattle.std.specs.Prelude.{slice_get}
+use Rattle.std.proofs.lemmas.Option.{get_or_from_slice_get, slice_get-get_or}
+use Rattle.ordered_map.specs.Entries.{place_of}
+use Rattle.dts_tree.specs.Numbered.{same_key, keys_of, depths_of, Paths, Numbered}
 
 paths_behind-push : (paths : List (List ℕ)) (keys : List (ℕ × ℕ)) (k : ℕ × ℕ) → paths_behind paths (keys ++ k ∷ []) ≡ paths_behind paths keys ++ (k.1 ∷ get_or (paths_behind paths keys) k.0 []) ∷ []
 paths_behind-push paths [] k = refl
@@ -157,12 +160,6 @@ numbered_push keys depths k h inside new = record {
 }
 
 -- ---- what the look-up of a key says
-none_position : {X : Type 0} (p : X → Bool) (xs : List X) → list_any p xs ≡ false → position_or_len p xs ≡ length xs
-none_position p [] none = refl
-none_position p (x ∷ xs) none =
-    let h = or_parts (p x) (list_any p xs) none in
-    rw (h.0, none_position p xs h.1) (omega arith)
-
 position_at : {X : Type 0} (p : X → Bool) (xs : List X) (i : ℕ) → position p xs ≡ Some i → position_or_len p xs ≡ i
 position_at p xs i is =
     elim (cases_Bool (nat_lt (position_or_len p xs) (length xs))) [
@@ -177,14 +174,10 @@ child_known keys paths p n at h inside within is =
     (sym (cond-true _ paths (paths ++ (n ∷ get_or paths p []) ∷ []) (lt-ltb (number_of nat_eq paths (n ∷ get_or paths p [])) (length paths) (omega (arith, here, h.each)))), omega (arith, here))
 
 -- a child that isn't there
-pub child_new : (keys : List (ℕ × ℕ)) (paths : List (List ℕ)) (p n : ℕ) → Paths keys paths → p < length paths → list_any (same_key (p, n)) keys ≡ false → (paths ++ (n ∷ get_or paths p []) ∷ [] ≡ with_path nat_eq paths (n ∷ get_or paths p [])) × (length paths ≡ number_of nat_eq paths (n ∷ get_or paths p []))
+pub child_new : (keys : List (ℕ × ℕ)) (paths : List (List ℕ)) (p n : ℕ) → Paths keys paths → p < length paths → position_or_len (same_key (p, n)) keys ≡ length keys → (paths ++ (n ∷ get_or paths p []) ∷ [] ≡ with_path nat_eq paths (n ∷ get_or paths p [])) × (length paths ≡ number_of nat_eq paths (n ∷ get_or paths p []))
 child_new keys paths p n h inside none =
-    let here : number_of nat_eq paths (n ∷ get_or paths p []) ≡ 1 + length keys = h.found p n inside ∙ ap (λ m. 1 + m) (none_position (same_key (p, n)) keys none) in
+    let here : number_of nat_eq paths (n ∷ get_or paths p []) ≡ 1 + length keys = h.found p n inside ∙ ap (λ m. 1 + m) none in
     (sym (cond-false _ paths (paths ++ (n ∷ get_or paths p []) ∷ []) (le-ltb (number_of nat_eq paths (n ∷ get_or paths p [])) (length paths) (omega (arith, here, h.each)))), omega (arith, here, h.each))
-
--- the keys behind which one that isn't there was put
-pub numbered_new : (keys : List (ℕ × ℕ)) (depths : List ℕ) (k : ℕ × ℕ) → Numbered keys depths → k.0 < length (paths_of keys) → list_any (same_key k) keys ≡ false → Numbered (keys ++ k ∷ []) (depths ++ (get_or depths k.0 0 + 1) ∷ [])
-numbered_new keys depths k h inside none = numbered_push keys depths k h inside (none_position (same_key k) keys none)
 
 -- the root alone
 pub numbered_root : Numbered [] (0 ∷ [])
@@ -202,10 +195,6 @@ numbered_root = record {
   deep = refl;
 }
 
-pub paths_of-none : paths_of [] ≡ [] ∷ []
-unfolding paths_of
-paths_of-none = refl
-
 pub none_long : {X : Type 0} (xs : List X) → length xs ≡ 0 → xs ≡ []
 none_long [] h = refl
 none_long (x ∷ xs) h = absurd (omega (arith, h))
@@ -213,23 +202,62 @@ none_long (x ∷ xs) h = absurd (omega (arith, h))
 pub depths_long : (keys : List (ℕ × ℕ)) (depths : List ℕ) → Numbered keys depths → length depths ≡ length (paths_of keys)
 depths_long keys depths h = ap length h.deep ∙ length-map (paths_of keys) length
 
-pub depth_at : (keys : List (ℕ × ℕ)) (depths : List ℕ) (k x : ℕ) → Numbered keys depths → k < length (paths_of keys) → x ≡ get_or depths k x → x ≡ get_or depths k 0
-depth_at keys depths k x h inside is = get_or_read depths k x (rw (depths_long keys depths h) inside) is 0
-
--- the key of a node that isn't the root
-pub depth_is : (keys : List (ℕ × ℕ)) (depths : List ℕ) (k x : ℕ) (paths : List (List ℕ)) → Numbered keys depths → paths_of keys ≡ paths → k < length paths → x ≡ get_or depths k x → x ≡ length (get_or paths k [])
-depth_is keys depths k x paths h is inside here =
-    let inside_keys : k < length (paths_of keys) = rw is inside in
-    depth_at keys depths k x h inside_keys here ∙ ap (λ (ds : List ℕ). get_or ds k 0) h.deep ∙ get_or-map length (paths_of keys) k [] 0 inside_keys ∙ ap (λ ps. length (get_or ps k [])) is
-
--- what is pushed and then taken away
-pub popped : (xs pushed left : List ℕ) (x n : ℕ) → pushed ≡ xs ++ x ∷ [] → n ≡ length pushed → left ≡ take (n - 1) pushed → left ≡ xs
-popped xs pushed left x n is long rest =
-    let before : n - 1 ≡ length xs = omega (arith, long, ap length is, length_push xs x) in
-    rest ∙ rw (before, is) (take-append_seam xs (x ∷ []))
-
 pub key-path : (keys : List (ℕ × ℕ)) (paths : List (List ℕ)) (node : ℕ) (k : ℕ × ℕ) → Paths keys paths → 0 < node → node < length paths → k ≡ get_or keys (node - 1) (0, 0) → (get_or paths node [] ≡ k.1 ∷ get_or paths k.0 []) × (k.0 < node)
 key-path keys paths node k h some inside is =
     let at : node - 1 + 1 ≡ node = omega (arith, some) in
     let within : node - 1 < length keys = omega (arith, some, inside, h.each) in
     (rw is (ap (λ (n : ℕ). get_or paths n []) (sym at) ∙ h.child (node - 1) within), rw is (omega (arith, h.earlier (node - 1) within, some)))
+
+-- ---- children with their depths
+pub place-position : (p : ℕ × ℕ → Bool) (es : List ((ℕ × ℕ) × ℕ)) → place_of p es ≡ position p (keys_of es)
+place-position p [] = refl
+place-position p (e ∷ es) =
+    ap (λ o. cond (p e.0) (Some 0) (option_map (λ n. n + 1) o)) (place-position p es)
+    ∙ elim (p e.0) as (λ (b : Bool). cond b (Some 0) (option_map (λ n. n + 1) (position p (keys_of es))) ≡ cond (nat_lt (cond (not b) (1 + position_or_len p (keys_of es)) 0) (length (keys_of (e ∷ es)))) (Some (cond (not b) (1 + position_or_len p (keys_of es)) 0)) None) [
+      | true ↦ sym (cond-true _ (Some 0) None (lt-ltb 0 (length (keys_of (e ∷ es))) (omega arith)))
+      | false ↦ ⊎_elim
+      (λ inside. ap (option_map (λ n. n + 1)) (cond-true _ (Some (position_or_len p (keys_of es))) None (lt-ltb (position_or_len p (keys_of es)) (length (keys_of es)) inside))
+      ∙ sym (cond-true _ (Some (1 + position_or_len p (keys_of es))) None (lt-ltb (1 + position_or_len p (keys_of es)) (length (keys_of (e ∷ es))) (omega (arith, inside)))
+      ∙ ap Some (omega arith)))
+      (λ past. ap (option_map (λ n. n + 1)) (cond-false _ (Some (position_or_len p (keys_of es))) None (le-ltb (position_or_len p (keys_of es)) (length (keys_of es)) past))
+      ∙ sym (cond-false _ (Some (1 + position_or_len p (keys_of es))) None (le-ltb (1 + position_or_len p (keys_of es)) (length (keys_of (e ∷ es))) (omega (arith, past)))))
+      (cases_lt (position_or_len p (keys_of es)) (length (keys_of es)))
+    ]
+
+pub nowhere : (p : ℕ × ℕ → Bool) (es : List ((ℕ × ℕ) × ℕ)) → place_of p es ≡ None → position_or_len p (keys_of es) ≡ length (keys_of es)
+nowhere p es none =
+    ⊎_elim
+    (λ inside. (let no : Some (position_or_len p (keys_of es)) ≡ None = sym (cond-true _ (Some (position_or_len p (keys_of es))) None (lt-ltb (position_or_len p (keys_of es)) (length (keys_of es)) inside)) ∙ (sym (place-position p es) ∙ none) in absurd (cc)))
+    (λ past. omega (arith, past, prefix_len-le-length (λ x. not (p x)) (keys_of es)))
+    (cases_lt (position_or_len p (keys_of es)) (length (keys_of es)))
+
+-- how deep a child is
+pub depth-child : (es : List ((ℕ × ℕ) × ℕ)) (node : ℕ) (x : (ℕ × ℕ) × ℕ) → Numbered (keys_of es) (depths_of es) → 0 < node → node < length (paths_of (keys_of es)) → slice_get es (node - 1) ≡ Some x → x.1 ≡ length (get_or (paths_of (keys_of es)) node [])
+depth-child es node x h some inside is =
+    let at : node ≡ suc (node - 1) = omega (arith, some) in
+    let within : node - 1 < length es = omega (arith, some, inside, h.paths.each, length-map es (λ c. c.0)) in
+    let here : get_or es (node - 1) x ≡ x = get_or_from_slice_get es (node - 1) x x is in
+    ap (λ (c : (ℕ × ℕ) × ℕ). c.1) (sym here)
+    ∙ sym (get_or-map (λ c. c.1) es (node - 1) x 0 within)
+    ∙ ap (λ (n : ℕ). get_or (depths_of es) n 0) (sym at)
+    ∙ ap (λ (ds : List ℕ). get_or ds node 0) h.deep
+    ∙ get_or-map length (paths_of (keys_of es)) node [] 0 inside
+
+-- the key of a child
+pub key-child : (es : List ((ℕ × ℕ) × ℕ)) (node : ℕ) (x : (ℕ × ℕ) × ℕ) → Numbered (keys_of es) (depths_of es) → 0 < node → node < length (paths_of (keys_of es)) → slice_get es (node - 1) ≡ Some x → (get_or (paths_of (keys_of es)) node [] ≡ x.0.1 ∷ get_or (paths_of (keys_of es)) x.0.0 []) × (x.0.0 < node)
+key-child es node x h some inside is =
+    let within : node - 1 < length es = omega (arith, some, inside, h.paths.each, length-map es (λ c. c.0)) in
+    key-path (keys_of es) (paths_of (keys_of es)) node x.0 h.paths some inside
+    (ap (λ (c : (ℕ × ℕ) × ℕ). c.0) (sym (get_or_from_slice_get es (node - 1) x x is)) ∙ sym (get_or-map (λ c. c.0) es (node - 1) x (0, 0) within))
+
+-- a child behind the others
+pub numbered-child : (es : List ((ℕ × ℕ) × ℕ)) (k : ℕ × ℕ) (depth : ℕ) → Numbered (keys_of es) (depths_of es) → k.0 < length (paths_of (keys_of es)) → place_of (same_key k) es ≡ None → depth ≡ length (get_or (paths_of (keys_of es)) k.0 []) + 1 → Numbered (keys_of (es ++ (k, depth) ∷ [])) (depths_of (es ++ (k, depth) ∷ []))
+numbered-child es k depth h inside absent is =
+    let at : depth ≡ get_or (depths_of es) k.0 0 + 1 = is ∙ ap (λ (n : ℕ). n + 1) (sym (ap (λ (ds : List ℕ). get_or ds k.0 0) h.deep ∙ get_or-map length (paths_of (keys_of es)) k.0 [] 0 inside)) in
+    rw (map-append (λ (c : (ℕ × ℕ) × ℕ). c.0) es ((k, depth) ∷ []), map-append (λ (c : (ℕ × ℕ) × ℕ). c.1) es ((k, depth) ∷ []), at)
+    (numbered_push (keys_of es) (depths_of es) k h inside (nowhere (same_key k) es absent))
+
+-- there is an item at each place
+pub some-at : {X : Type 0} (xs : List X) (n : ℕ) → n < length xs → slice_get xs n ≡ None → ⊥
+some-at [] n inside none = omega (arith, inside)
+some-at (x ∷ xs) n inside none = let is : slice_get (x ∷ xs) n ≡ Some (get_or (x ∷ xs) n x) = slice_get-get_or (x ∷ xs) n x inside in (let no : None ≡ Some (get_or (x ∷ xs) n x) = sym none ∙ is in cc)

@@ -12,7 +12,7 @@ use Rattle.dts_tree.specs.declared.setting.Setting.{Setting}
 use Rattle.dts_tree.specs.declared.setting.Setting.TheVariants.{Opens, Sets}
 use Rattle.dts_tree.specs.declared.fault.TreeFault.{TreeFault}
 use Rattle.dts_tree.specs.Path.{number_of, with_path}
-use Rattle.indexmap.specs.IndexMap.{insert_entry}
+use Rattle.ordered_map.specs.Entries.{insert_entry}
 use Rattle.dts_tree.specs.Reading.{Reading, elsewhere, stands_elsewhere, with_labels, opened, stepped, walked, unless_fault, nothing_read}
 use Rattle.dts_tree.specs.declared.said.Said.{Said}
 use Rattle.dts_tree.specs.declared.reader.Reader.{Reader}
@@ -173,8 +173,8 @@ shallow-elsewhere nodes entries path k ws inside is apart below =
     elsewhere-number nodes entries path (Some k) ws (λ j in_j. ap not (sym (apart j k in_j inside) ∙ ap (pointwise nat_eq (get_or nodes j [])) is)) below
 
 module _ (r : Reader) (new : List (List ℕ)) (path : List ℕ) (k : ℕ) (h : Standing r) (g : Grown r.nodes new path k) where
-  pub labels-grown : map (label_at new) r.labels.entries ≡ map (label_at r.nodes) r.labels.entries
-  labels-grown = map-same (λ (e : ℕ × ℕ). e.1) (label_at new) (label_at r.nodes) (length r.nodes) r.labels.entries (λ e below. ap (λ p. (e.0, p)) (g.same e.1 below)) h.labels
+  pub labels-grown : map (label_at new) r.labels ≡ map (label_at r.nodes) r.labels
+  labels-grown = map-same (λ (e : ℕ × ℕ). e.1) (label_at new) (label_at r.nodes) (length r.nodes) r.labels (λ e below. ap (λ p. (e.0, p)) (g.same e.1 below)) h.labels
 
   setting-grown : (s : Setting ℕ ℕ) → node_of s < length r.nodes → with_path_at new s ≡ with_path_at r.nodes s
   setting-grown (Opens node at) below = ap (λ p. Opens p at) (g.same node below)
@@ -195,7 +195,7 @@ module _ (r : Reader) (new : List (List ℕ)) (path : List ℕ) (k : ℕ) (h : S
         (λ high. ⊎_elim (λ e. rw e short) (λ e. rw e (omega arith)) (g.other n high))
         (cases_lt n (length r.nodes));
     bodies = all_below-wider (length r.nodes) (length new) (reverse r.bodies.items) g.long h.bodies;
-    labels = all_below-wider (length r.nodes) (length new) (map (λ e. e.1) r.labels.entries) g.long h.labels;
+    labels = all_below-wider (length r.nodes) (length new) (map (λ e. e.1) r.labels) g.long h.labels;
     settings = all_below-wider (length r.nodes) (length new) (map node_of r.settings.items) g.long h.settings;
   }
 

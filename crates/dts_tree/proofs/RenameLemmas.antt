@@ -4,7 +4,7 @@ use Rattle.std.specs.Option.{option_map}
 use Rattle.std.specs.Map.{lookup}
 use Rattle.std.specs.Cmp.Lexicographic.{pointwise}
 use Rattle.std.proofs.lemmas.List.{map-append, length-map}
-use Rattle.indexmap.specs.IndexMap.{insert_entry}
+use Rattle.ordered_map.specs.Entries.{insert_entry}
 use Rattle.dts_tree.specs.declared.said.Said.{Said}
 use Rattle.dts_tree.specs.declared.said.Said.TheVariants.{Label, Root, Node, Add, Leave, Property}
 use Rattle.dts_tree.specs.declared.setting.Setting.TheVariants.{Opens, Sets}

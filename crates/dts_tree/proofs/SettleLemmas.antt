@@ -4,7 +4,7 @@ use Rattle.std.specs.List.{flat_map}
 use Rattle.std.specs.Str.{bytes_eq}
 use Rattle.std.specs.Cmp.Lexicographic.{pointwise}
 use Rattle.std.proofs.lemmas.List.Folds.{flat_map-map}
-use Rattle.indexmap.specs.IndexMap.{insert_entry}
+use Rattle.ordered_map.specs.Entries.{insert_entry}
 use Rattle.dts_lex.specs.declared.token.Token.{Token}
 use Rattle.dts_tree.specs.declared.setting.Setting.{Setting}
 use Rattle.dts_tree.specs.declared.setting.Setting.TheVariants.{Opens, Sets}
@@ -146,9 +146,9 @@ module _ (text : List ℕ) (tokens : List Token) (reader : Reader) (order places
       ∙ ap (map (with_tokens tokens)) (sym (values_from (length reader.nodes) name (path_at reader.nodes) names paths_apart [] reader.settings.items tt standing.settings)
       ∙ ap (values_of (pointwise bytes_eq) bytes_eq) (sym settings_eq)))
 
-  labels_eq : map (kept_label name reader.nodes) reader.labels.entries ≡ map (label_by name) (map (label_at reader.nodes) reader.labels.entries)
-  labels_eq = sym (map-map (label_by name) (label_at reader.nodes) reader.labels.entries)
+  labels_eq : map (kept_label name reader.nodes) reader.labels ≡ map (label_by name) (map (label_at reader.nodes) reader.labels)
+  labels_eq = sym (map-map (label_by name) (label_at reader.nodes) reader.labels)
 
-  pub settled-tree : kept_tree text tokens reader.nodes order places reader.labels.entries values ≡ tree_of text tokens (reading_in text tokens reader)
+  pub settled-tree : kept_tree text tokens reader.nodes order places reader.labels values ≡ tree_of text tokens (reading_in text tokens reader)
   unfolding kept_tree
   settled-tree = rw (nodes_eq, places_eq, values_eq, labels_eq) refl

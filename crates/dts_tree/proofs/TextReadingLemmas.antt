@@ -64,13 +64,13 @@ module _ (text : List ℕ) (tokens : List Token) where
 
   module _ (bytes : (i : ℕ) → get_or text i 0 < 256) (reader : Reader) where
     abbrev by_number : Token → Bool
-    by_number t = is_some (lookup (nat_eq (number_in text tokens t)) reader.labels.entries)
+    by_number t = is_some (lookup (nat_eq (number_in text tokens t)) reader.labels)
 
     label_named : (k : ℕ) → k < length tokens → names_label text (reading_in text tokens reader) (get_or tokens k blank) ≡ by_number (get_or tokens k blank)
     label_named k inside =
         let t = get_or tokens k blank in
         ap (λ name. is_some (lookup (bytes_eq name) (reading_in text tokens reader).labels)) (sym (name_of_number text tokens t k inside refl))
-        ∙ known_named bytes (number_in text tokens t) reader.nodes reader.labels.entries
+        ∙ known_named bytes (number_in text tokens t) reader.nodes reader.labels
 
     find_same : (p q : Token → Bool) (xs : List Token) → ((k : ℕ) → k < length xs → p (get_or xs k blank) ≡ q (get_or xs k blank)) → find p xs ≡ find q xs
     find_same p q [] same = refl
@@ -101,7 +101,7 @@ module _ (text : List ℕ) (tokens : List Token) where
         ∙ sym (find-append (is_unknown (names_label text (reading_in text tokens reader))) (value_of tokens s) (flat_map (value_of tokens) ss))
 
     -- by numbers the same reference is unknown
-    pub unknown_named : (steps : List Step) → AllByRecursion (IsStepWithin (length tokens)) steps → unknown_ref (λ t. is_some (lookup (nat_eq (number_in text tokens t)) reader.labels.entries)) tokens steps ≡ unknown_ref (names_label text (reading_in text tokens reader)) tokens steps
+    pub unknown_named : (steps : List Step) → AllByRecursion (IsStepWithin (length tokens)) steps → unknown_ref (λ t. is_some (lookup (nat_eq (number_in text tokens t)) reader.labels)) tokens steps ≡ unknown_ref (names_label text (reading_in text tokens reader)) tokens steps
     unfolding unknown_ref
     unknown_named steps within = unknown_same steps within
 
@@ -118,9 +118,9 @@ module _ (text : List ℕ) (tokens : List Token) (bytes : (i : ℕ) → get_or t
     pub outcome_behind : (o : Option OutlineFault) (r : Option TreeFault) → IsOutline text tokens steps o → r ≡ fault_behind text tokens steps o (reading_in text tokens reader) → IsOutcome text tokens (or_fault (reading_in text tokens reader) r)
     outcome_behind o r outline behind = (steps, o, outline, ap (checked (fault_behind text tokens steps o)) read_all ∙ ap (or_fault (reading_in text tokens reader)) (sym behind))
 
-pub unknown_behind : (text : List ℕ) (tokens : List Token) (bytes : (i : ℕ) → get_or text i 0 < 256) (steps : List Step) → AllByRecursion (IsStepWithin (length tokens)) steps → (reader : Reader) (o : Option OutlineFault) (r : Option Token) (told : List Step) → o ≡ None → told ≡ steps → r ≡ unknown_ref (λ t. is_some (lookup (nat_eq (number_in text tokens t)) reader.labels.entries)) tokens told → option_map (λ (t : Token). fault.NoLabel t.start) r ≡ fault_behind text tokens steps o (reading_in text tokens reader)
+pub unknown_behind : (text : List ℕ) (tokens : List Token) (bytes : (i : ℕ) → get_or text i 0 < 256) (steps : List Step) → AllByRecursion (IsStepWithin (length tokens)) steps → (reader : Reader) (o : Option OutlineFault) (r : Option Token) (told : List Step) → o ≡ None → told ≡ steps → r ≡ unknown_ref (λ t. is_some (lookup (nat_eq (number_in text tokens t)) reader.labels)) tokens told → option_map (λ (t : Token). fault.NoLabel t.start) r ≡ fault_behind text tokens steps o (reading_in text tokens reader)
 unknown_behind text tokens bytes steps within reader o r told none all unknown =
-    ap (option_map (λ (t : Token). fault.NoLabel t.start)) (unknown ∙ ap (unknown_ref (λ t. is_some (lookup (nat_eq (number_in text tokens t)) reader.labels.entries)) tokens) all ∙ unknown_named text tokens bytes reader steps within)
+    ap (option_map (λ (t : Token). fault.NoLabel t.start)) (unknown ∙ ap (unknown_ref (λ t. is_some (lookup (nat_eq (number_in text tokens t)) reader.labels)) tokens) all ∙ unknown_named text tokens bytes reader steps within)
     ∙ ap (λ p. fault_behind text tokens steps p (reading_in text tokens reader)) (sym none)
 
 -- the names of nodes are those of tokens

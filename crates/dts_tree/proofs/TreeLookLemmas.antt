@@ -14,7 +14,7 @@ use Rattle.dts_tree.specs.Names.{name_at, first_with, known_before}
 use Rattle.dts_tree.specs.Reader.{AllBelow, path_at, node_of}
 use Rattle.dts_tree.specs.declared.setting.Setting.{Setting}
 use Rattle.dts_tree.specs.declared.setting.Setting.TheVariants.{Opens, Sets}
-use Rattle.indexmap.specs.IndexMap.{insert_entry}
+use Rattle.ordered_map.specs.Entries.{insert_entry}
 use Rattle.dts_tree.specs.Settled.{same_property, with_value}
 use Rattle.dts_tree.specs.Tree.{DeviceTree, kept_tree, kept_value, kept_label, with_tokens, value_in}
 use Rattle.dts_tree.specs.TreeValues.{node_of_label, node_among}

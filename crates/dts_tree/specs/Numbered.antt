@@ -3,6 +3,14 @@ use Rattle.std.specs.Prelude.{◌≡◌, ℕ, ◌+◌, ◌<◌, ◌≤◌, List,
 use Rattle.std.specs.List.{position_or_len}
 use Rattle.dts_tree.specs.Path.{number_of, paths_of}
 
+-- the keys of nodes that are told by their parent's number and their name, with their depths
+abbrev pub keys_of : List ((ℕ × ℕ) × ℕ) → List (ℕ × ℕ)
+keys_of children = map (λ c. c.0) children
+
+-- the depths of the root and of these
+abbrev pub depths_of : List ((ℕ × ℕ) × ℕ) → List ℕ
+depths_of children = 0 ∷ map (λ c. c.1) children
+
 -- whether two nodes have one parent and one name
 abbrev pub same_key : ℕ × ℕ → ℕ × ℕ → Bool
 same_key a b = nat_eq a.0 b.0 && nat_eq a.1 b.1

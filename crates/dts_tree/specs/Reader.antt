@@ -2,7 +2,7 @@
 use Rattle.std.specs.Prelude.{◌≡◌, ℕ, ◌<◌, ◌≤◌, List, [], ◌∷◌, Bool, false, Option, Some, None, length, map, reverse, slice_index_or, nat_eq, not, fold, if◌then◌else◌}
 use Rattle.std.specs.Option.{option_eq}
 use Rattle.std.specs.Map.{lookup}
-use Rattle.indexmap.specs.IndexMap.{insert_entry}
+use Rattle.ordered_map.specs.Entries.{insert_entry}
 use Rattle.dts_tree.specs.declared.setting.Setting.{Setting}
 use Rattle.dts_tree.specs.declared.setting.Setting.TheVariants.{Opens, Sets}
 use Rattle.dts_tree.specs.declared.reader.Reader.{Reader}
@@ -33,7 +33,7 @@ abbrev pub reading : Reader → Reading ℕ
 reading r = record {
   paths = r.nodes;
   bodies = map (path_at r.nodes) (reverse r.bodies.items);
-  labels = map (label_at r.nodes) r.labels.entries;
+  labels = map (label_at r.nodes) r.labels;
   waiting = r.waiting.items;
   settings = map (with_path_at r.nodes) r.settings.items;
 }
@@ -44,7 +44,7 @@ pub record Standing (r : Reader) : Type 0 where
   pub root : path_at r.nodes 0 ≡ []
   pub shallow : (k : ℕ) → length (path_at r.nodes k) ≤ 32
   pub bodies : AllBelow (length r.nodes) (reverse r.bodies.items)
-  pub labels : AllBelow (length r.nodes) (map (λ e. e.1) r.labels.entries)
+  pub labels : AllBelow (length r.nodes) (map (λ e. e.1) r.labels)
   pub settings : AllBelow (length r.nodes) (map node_of r.settings.items)
 
 -- a label stands at another node than this

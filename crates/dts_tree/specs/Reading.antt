@@ -2,7 +2,7 @@
 use Rattle.std.specs.Prelude.{ℕ, List, [], ◌∷◌, ◌++◌, Bool, false, not, nat_le, Option, Some, None, Result, Ok, Err, fold, length, if◌then◌else◌}
 use Rattle.std.specs.Map.{lookup}
 use Rattle.std.specs.Cmp.Lexicographic.{pointwise}
-use Rattle.indexmap.specs.IndexMap.{insert_entry}
+use Rattle.ordered_map.specs.Entries.{insert_entry}
 use Rattle.dts_tree.specs.declared.said.Said.{Said}
 use Rattle.dts_tree.specs.declared.said.Said.TheVariants.{Label, Root, Node, Add, Leave, Property}
 use Rattle.dts_tree.specs.declared.setting.Setting.{Setting}

@@ -1,7 +1,7 @@
 -- What settings come to.
 use Rattle.std.specs.Prelude.{◌≡◌, ℕ, ◌<◌, ◌^◌, List, [], ◌∷◌, Bool, ◌&&◌, fold, length, map, nat_eq, slice_index, slice_set, if◌then◌else◌}
 use Rattle.std.specs.List.{position_or_len}
-use Rattle.indexmap.specs.IndexMap.{insert_entry}
+use Rattle.ordered_map.specs.Entries.{insert_entry}
 use Rattle.dts_tree.specs.declared.settled.Layout.{Layout}
 use Rattle.dts_tree.specs.declared.setting.Setting.{Setting}
 use Rattle.dts_tree.specs.declared.setting.Setting.TheVariants.{Opens, Sets}
@@ -43,4 +43,4 @@ pub record IsLayout (nodes : List (List ℕ)) (settings : List (Setting ℕ ℕ)
   pub ranked : (k : ℕ) → k < length nodes → slice_index layout.ranks k ≡ position_or_len (nat_eq k) layout.order
   pub long_places : length layout.places ≡ length nodes
   pub placed : (k : ℕ) → k < length nodes → slice_index layout.places k ≡ first_place (nat_eq k) settings
-  pub values : layout.values.entries ≡ values_of nat_eq nat_eq settings
+  pub values : layout.values ≡ values_of nat_eq nat_eq settings

@@ -2,49 +2,38 @@ ghost use Rattle.std.specs.Prelude.{◌≡◌, ℕ, ◌<◌, ◌≤◌, ◌+◌,
 ghost use Rattle.std.specs.Cmp.Lexicographic.{pointwise};
 ghost use Rattle.dts_tree.specs.Path.{number_of, with_path};
 
-use indexmap::IndexSet;
+use ordered_map::OrderedMap;
 use std::alloc::{AllocError, Global};
 use std::marker::Model;
 
 /// The nodes that are there so far, numbered as they came; the root is 0. Contracts see the list of
 /// their paths.
+#[derive(Drop)]
 pub(crate) struct Nodes {
-    /// Of each node but the root the number of its parent, and its name.
-    keys: IndexSet<(u32, u32)>,
-    /// How far each node is below the root.
-    depths: Vec<u32>,
-}
-
-impl Drop for Nodes {
-    /// Ends both parts, so that an owner's code has one call for it.
-    fn drop(self) {
-        let Nodes { keys: _, depths: _ } = self;
-    }
+    /// Each node but the root, by the number of its parent and its name: how far it is below the root.
+    children: OrderedMap<(u32, u32), u32>,
 }
 
 impl Model for Nodes {
     ghost use Rattle.std.specs.Prelude.{List, ℕ};
     ghost use Rattle.dts_tree.specs.Path.{paths_of};
-    ghost use Rattle.dts_tree.specs.Numbered.{Numbered};
+    ghost use Rattle.dts_tree.specs.Numbered.{Numbered, keys_of, depths_of};
 
     ghost Value = { List (List ℕ) };
 
-    ghost view = { λ n. paths_of n.keys.keys };
+    ghost view = { λ n. paths_of (keys_of n.children) };
 
-    ghost invariant = { λ n. Numbered n.keys.keys n.depths.items };
+    ghost invariant = { λ n. Numbered (keys_of n.children) (depths_of n.children) };
 }
 
 impl Nodes {
-    /// The root alone.
-    pub(crate) fn new(alloc: Global) -> Result<Nodes, AllocError>
-        ensures { IfOk result (λ n. n ≡ [] ∷ []) }
+    /// The root alone. Takes no memory.
+    pub(crate) fn new(alloc: Global) -> Nodes
+        ensures { result ≡ [] ∷ [] }
     {
-        let mut depths = Vec::new(alloc);
-        depths.push(0)?;
-        Ok(Nodes {
-            keys: IndexSet::new(alloc),
-            depths,
-        })
+        Nodes {
+            children: OrderedMap::new(alloc),
+        }
     }
 
     pub(crate) fn len(&self) -> usize
@@ -52,7 +41,7 @@ impl Nodes {
         ensures root { slice_index_or self.now 0 [] ≡ [] }
         ensures apart { (j k : ℕ) → j < length self.now → k < length self.now → pointwise nat_eq (slice_index_or self.now j []) (slice_index_or self.now k []) ≡ nat_eq j k }
     {
-        self.depths.len()
+        self.children.len() + 1
     }
 
     /// How far a node is below the root.
@@ -60,14 +49,20 @@ impl Nodes {
         requires { node < length self.now }
         ensures { result ≡ length (slice_index_or self.now node []) }
     {
-        self.depths[node as usize]
+        if self.children.len() == 0 || node == 0 {
+            return 0;
+        }
+        match self.children.at(node as usize - 1) {
+            Some(child) => child.1,
+            None => 0,
+        }
     }
 
     /// No two nodes have one path.
     pub(crate) fn apart(&self)
         ensures { (j k : ℕ) → j < length self.now → k < length self.now → pointwise nat_eq (slice_index_or self.now j []) (slice_index_or self.now k []) ≡ nat_eq j k }
     {
-        let _count = self.depths.len();
+        let _count = self.children.len();
     }
 
     /// The number of a node's parent, and the node's name.
@@ -78,8 +73,8 @@ impl Nodes {
         ensures earlier { result.0 < node }
         ensures apart { (j k : ℕ) → j < length self.now → k < length self.now → pointwise nat_eq (slice_index_or self.now j []) (slice_index_or self.now k []) ≡ nat_eq j k }
     {
-        match self.keys.get_index(node as usize - 1) {
-            Some(key) => *key,
+        match self.children.at(node as usize - 1) {
+            Some(child) => child.0,
             None => (0, 0),
         }
     }
@@ -94,16 +89,12 @@ impl Nodes {
         ensures apart { OnOk result ((j k : ℕ) → j < length self.new → k < length self.new → pointwise nat_eq (slice_index_or self.new j []) (slice_index_or self.new k []) ≡ nat_eq j k) }
         ensures err { OnErr result (self.new ≡ self.old) }
     {
-        let depth = self.depths[parent as usize] + 1;
-        if let Some(at) = self.keys.get_index_of(&(parent, name)) {
-            return Ok(at as u32 + 1);
+        if let Some(place) = self.children.place(&(parent, name)) {
+            return Ok(place as u32 + 1);
         }
-        let number = self.depths.len() as u32;
-        self.depths.push(depth)?;
-        if let Err(refused) = self.keys.insert((parent, name)) {
-            self.depths.pop();
-            return Err(AllocError::from(refused));
-        }
+        let depth = self.depth(parent) + 1;
+        let number = self.len() as u32;
+        self.children.insert((parent, name), depth)?;
         Ok(number)
     }
 }

@@ -7,7 +7,7 @@ use crate::fault::TreeFault;
 use crate::nodes::Nodes;
 use crate::said::Said;
 use crate::setting::Setting;
-use indexmap::IndexMap;
+use ordered_map::OrderedMap;
 use std::alloc::{AllocError, Global};
 
 /// How many levels a node may be below the root.
@@ -19,24 +19,25 @@ pub(crate) struct Reader {
     pub(crate) nodes: Nodes,
     /// The nodes of the open bodies, the innermost last.
     bodies: Vec<u32>,
-    pub(crate) labels: IndexMap<u32, u32>,
+    pub(crate) labels: OrderedMap<u32, u32>,
     /// The labels of the node that comes next, with their places.
     waiting: Vec<(u32, u32)>,
     pub(crate) settings: Vec<Setting<u32, u32>>,
 }
 
 impl Reader {
-    fn new(alloc: Global) -> Result<Reader, AllocError>
-        ensures start { IfOk result (λ r. reading r ≡ nothing_read) }
-        ensures standing { IfOk result (λ r. Standing r) }
+    /// Nothing was read. Takes no memory.
+    fn new(alloc: Global) -> Reader
+        ensures start { reading result ≡ nothing_read }
+        ensures standing { Standing result }
     {
-        Ok(Reader {
-            nodes: Nodes::new(alloc)?,
+        Reader {
+            nodes: Nodes::new(alloc),
             bodies: Vec::new(alloc),
-            labels: IndexMap::new(alloc),
+            labels: OrderedMap::new(alloc),
             waiting: Vec::new(alloc),
             settings: Vec::new(alloc),
-        })
+        }
     }
 
     /// The number of the open node.
@@ -84,7 +85,7 @@ impl Reader {
 
     /// The place of the first waiting label that stands at another node than this.
     fn elsewhere(&self, node: Option<u32>) -> Option<u32>
-        ensures { result ≡ elsewhere_by_number self.now.labels.entries node self.now.waiting.items }
+        ensures { result ≡ elsewhere_by_number self.now.labels node self.now.waiting.items }
     {
         for (label, at) in &self.waiting {
             if let Some(other) = self.labels.get(label) {
@@ -161,11 +162,11 @@ impl Reader {
 }
 
 fn put_labels(
-    labels: &mut IndexMap<u32, u32>,
+    labels: &mut OrderedMap<u32, u32>,
     waiting: &[(u32, u32)],
     node: u32,
 ) -> Result<(), AllocError>
-    ensures { OnOk result (labels.new.entries ≡ with_labels_at labels.old.entries node waiting.now) }
+    ensures { OnOk result (labels.new ≡ with_labels_at labels.old node waiting.now) }
 {
     for (label, _) in waiting {
         labels.insert(*label, node)?;
@@ -180,7 +181,7 @@ pub(crate) fn read(alloc: Global, steps: &[Said<u32>]) -> Result<Reader, TreeFau
     ensures ok { IfOk result (λ reader. walked nat_eq nothing_read steps.now ≡ Ok (reading reader)) }
     ensures fault { IfErr result (λ fault. fault ≢ TreeFault.Memory → walked nat_eq nothing_read steps.now ≡ Err fault) }
 {
-    let mut reader = Reader::new(alloc)?;
+    let mut reader = Reader::new(alloc);
     for said in steps {
         reader.step(said)?;
     }

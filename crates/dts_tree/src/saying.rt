@@ -8,7 +8,7 @@ ghost use Rattle.dts_tree.specs.Within.{IsStepWithin};
 use crate::said::Said;
 use crate::step::Step;
 use dts_lex::{Kind, Token};
-use indexmap::IndexMap;
+use ordered_map::OrderedMap;
 use std::alloc::{AllocError, Global};
 
 /// The steps with the numbers of names, and with the places of bytes.
@@ -79,13 +79,13 @@ fn name_and_place(tokens: &[Token], numbers: &[u32], word: u32) -> (u32, u32)
 pub(crate) fn unknown_ref(
     tokens: &[Token],
     numbers: &[u32],
-    labels: &IndexMap<u32, u32>,
+    labels: &OrderedMap<u32, u32>,
     steps: &[Step],
 ) -> Option<Token>
     requires long { length numbers.now ≡ length tokens.now }
     requires within { AllByRecursion (IsStepWithin (length tokens.now)) steps.now }
     ensures { (text : List ℕ) → numbers.now ≡ map (number_in text tokens.now) tokens.now
-        → result ≡ saying.unknown_ref (λ t. is_some (lookup (nat_eq (number_in text tokens.now t)) labels.now.entries)) tokens.now steps.now }
+        → result ≡ saying.unknown_ref (λ t. is_some (lookup (nat_eq (number_in text tokens.now t)) labels.now)) tokens.now steps.now }
 {
     let mut at = 0;
     while at < steps.len() {
@@ -101,13 +101,13 @@ pub(crate) fn unknown_ref(
 fn unknown_in(
     tokens: &[Token],
     numbers: &[u32],
-    labels: &IndexMap<u32, u32>,
+    labels: &OrderedMap<u32, u32>,
     step: Step,
 ) -> Option<Token>
     requires long { length numbers.now ≡ length tokens.now }
     requires within { IsStepWithin (length tokens.now) step }
     ensures { (text : List ℕ) → numbers.now ≡ map (number_in text tokens.now) tokens.now
-        → result ≡ find (saying.is_unknown (λ t. is_some (lookup (nat_eq (number_in text tokens.now t)) labels.now.entries))) (saying.value_of tokens.now step) }
+        → result ≡ find (saying.is_unknown (λ t. is_some (lookup (nat_eq (number_in text tokens.now t)) labels.now))) (saying.value_of tokens.now step) }
 {
     match step {
         Step::Property { from, to, .. } => unknown_between(tokens, numbers, labels, from, to),
@@ -118,7 +118,7 @@ fn unknown_in(
 fn unknown_between(
     tokens: &[Token],
     numbers: &[u32],
-    labels: &IndexMap<u32, u32>,
+    labels: &OrderedMap<u32, u32>,
     from: u32,
     to: u32,
 ) -> Option<Token>
@@ -126,7 +126,7 @@ fn unknown_between(
     requires rises { from ≤ to }
     requires inside { to ≤ length tokens.now }
     ensures { (text : List ℕ) → numbers.now ≡ map (number_in text tokens.now) tokens.now
-        → result ≡ find (saying.is_unknown (λ t. is_some (lookup (nat_eq (number_in text tokens.now t)) labels.now.entries))) (slice_range tokens.now from to) }
+        → result ≡ find (saying.is_unknown (λ t. is_some (lookup (nat_eq (number_in text tokens.now t)) labels.now))) (slice_range tokens.now from to) }
 {
     let mut at = from;
     while at < to {
@@ -140,8 +140,8 @@ fn unknown_between(
 }
 
 /// Whether a token is a reference to none of the labels; its name has a number.
-fn is_unknown(labels: &IndexMap<u32, u32>, token: &Token, number: u32) -> bool
-    ensures { result ≡ (saying.is_ref token.now.kind && not (is_some (lookup (nat_eq number) labels.now.entries))) }
+fn is_unknown(labels: &OrderedMap<u32, u32>, token: &Token, number: u32) -> bool
+    ensures { result ≡ (saying.is_ref token.now.kind && not (is_some (lookup (nat_eq number) labels.now))) }
 {
     match token.kind {
         Kind::Ref => labels.get(&number).is_none(),

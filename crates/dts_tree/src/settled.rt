@@ -9,7 +9,7 @@ use crate::fault::TreeFault;
 use crate::nodes::Nodes;
 use crate::order::tree_order;
 use crate::setting::Setting;
-use indexmap::IndexMap;
+use ordered_map::OrderedMap;
 use item_list::Items;
 use std::alloc::{AllocError, Global};
 
@@ -23,7 +23,7 @@ pub(crate) struct Layout {
     /// Where the name of each node stands that is opened first.
     pub(crate) places: Items<u32>,
     /// By the numbers of nodes and names.
-    pub(crate) values: IndexMap<(u32, u32), (u32, u32)>,
+    pub(crate) values: OrderedMap<(u32, u32), (u32, u32)>,
 }
 
 pub(crate) fn layout_of(
@@ -137,10 +137,10 @@ fn put_place(places: &mut Vec<u32>, setting: &Setting<u32, u32>)
 fn values_of(
     alloc: Global,
     settings: &[Setting<u32, u32>],
-) -> Result<IndexMap<(u32, u32), (u32, u32)>, AllocError>
-    ensures { IfOk result (λ values. values.entries ≡ values_of nat_eq nat_eq settings.now) }
+) -> Result<OrderedMap<(u32, u32), (u32, u32)>, AllocError>
+    ensures { IfOk result (λ values. values ≡ values_of nat_eq nat_eq settings.now) }
 {
-    let mut values = IndexMap::new(alloc);
+    let mut values = OrderedMap::new(alloc);
     for setting in settings {
         put_value(&mut values, setting)?;
     }
@@ -148,10 +148,10 @@ fn values_of(
 }
 
 fn put_value(
-    values: &mut IndexMap<(u32, u32), (u32, u32)>,
+    values: &mut OrderedMap<(u32, u32), (u32, u32)>,
     setting: &Setting<u32, u32>,
 ) -> Result<(), AllocError>
-    ensures { OnOk result (values.new.entries ≡ with_value nat_eq nat_eq values.old.entries setting.now) }
+    ensures { OnOk result (values.new ≡ with_value nat_eq nat_eq values.old setting.now) }
 {
     if let Setting::Sets {
         node,

@@ -10,7 +10,7 @@ use crate::nodes::Nodes;
 use crate::reader::Reader;
 use crate::settled::{Layout, layout_of};
 use dts_lex::Token;
-use indexmap::IndexMap;
+use ordered_map::OrderedMap;
 use item_list::Items;
 use std::alloc::{AllocError, Global};
 use std::marker::Model;
@@ -26,8 +26,8 @@ pub struct Tree {
     /// The place of each node in the order.
     ranks: Items<u32>,
     places: Items<u32>,
-    labels: IndexMap<u32, u32>,
-    values: IndexMap<(u32, u32), (u32, u32)>,
+    labels: OrderedMap<u32, u32>,
+    values: OrderedMap<(u32, u32), (u32, u32)>,
     firsts: Firsts,
 }
 
@@ -54,9 +54,9 @@ impl Model for Tree {
 
     ghost Value = { DeviceTree };
 
-    ghost view = { λ t. kept_tree t.text t.tokens t.nodes t.order t.places t.labels.entries t.values.entries };
+    ghost view = { λ t. kept_tree t.text t.tokens t.nodes t.order t.places t.labels t.values };
 
-    ghost invariant = { λ t. Settled t.text t.tokens t.nodes t.order t.ranks t.places t.labels.entries t.values.entries (found_in t.firsts) };
+    ghost invariant = { λ t. Settled t.text t.tokens t.nodes t.order t.ranks t.places t.labels t.values (found_in t.firsts) };
 }
 
 impl Tree {

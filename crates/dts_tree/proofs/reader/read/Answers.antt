@@ -10,10 +10,10 @@ use Rattle.dts_tree.proofs.reader.read.Goals as goal
 
 pub loop-said-init : goal.loop-said-init
 loop-said-init c =
-    let start = c.in_ok-reader.ensures.start in
+    let start = c.new-reader.ensures.start in
     let one = ap (λ r. length r.paths) start ∙ nothing_read-paths in
     record {
-      standing = c.in_ok-reader.ensures.standing;
+      standing = c.new-reader.ensures.standing;
       few = omega (arith, one);
       rest = ap (λ r. walked nat_eq r c.args.steps.now) start;
     }
@@ -23,7 +23,7 @@ returns-in_err-step-clause-fault c =
     let steps = c.args.steps.now in
     let i = c.loop-said.said-index in
     let next = drop_more steps i (Label 0 0) c.loop-said-test.true in
-    let p = err_from_is_err_and c.from_residual-in_err-step.result c.from_residual-in_err-step.ensures.1 in
+    let p = err_from_is_err_and c.from_residual.result c.from_residual.ensures.1 in
     rw (p.1, p.2) (λ ne.
     sym c.loop-said.invariant.rest
     ∙ (ap (walked nat_eq (reading c.loop-said.reader)) next
@@ -48,11 +48,3 @@ returns-clause-ok c =
     ∙ (ap (walked nat_eq (reading c.loop-said.reader)) (drop_all c.loop-said.said-index c.args.steps.now c.loop-said-test.false)
     ∙ walked-end nat_eq (reading c.loop-said.reader))
 
-pub returns-in_err-reader : goal.returns-in_err-reader
-returns-in_err-reader c =
-    let exit = c.from_residual.ensures in
-    record {
-      standing = IfOk-from_err _ _ exit.0;
-      ok = IfOk-from_err _ _ exit.0;
-      fault = unless_memory _ _ exit.1;
-    }

@@ -11,9 +11,9 @@ pub returns-then-is_unknown : goal.returns-then-is_unknown
 returns-then-is_unknown c = λ text is.
     let tokens = c.args.tokens.now in
     let at = c.loop-at.at in
-    let test : Token → _ = is_unknown (λ t. is_some (lookup (nat_eq (number_in text tokens t)) c.args.labels.now.entries)) in
+    let test : Token → _ = is_unknown (λ t. is_some (lookup (nat_eq (number_in text tokens t)) c.args.labels.now)) in
     sym (sym (c.loop-at.invariant.left text is) ∙ found_here test tokens at c.args.to blank c.loop-at-test.true (omega arith)
-    (ap (λ n. is_ref (get_or tokens at blank).kind && not (is_some (lookup (nat_eq n) c.args.labels.now.entries))) (sym (number_at_place text tokens c.args.numbers.now at blank is (omega arith))) ∙ sym c.is_unknown.ensures ∙ c.if-is_unknown.true))
+    (ap (λ n. is_ref (get_or tokens at blank).kind && not (is_some (lookup (nat_eq n) c.args.labels.now))) (sym (number_at_place text tokens c.args.numbers.now at blank is (omega arith))) ∙ sym c.is_unknown.ensures ∙ c.if-is_unknown.true))
 
 pub loop-at-preserved : goal.loop-at-preserved
 loop-at-preserved c = record {
@@ -21,7 +21,7 @@ loop-at-preserved c = record {
   left = λ text is.
       let tokens = c.args.tokens.now in
       let at = c.loop-at.at in
-      found_later (is_unknown (λ t. is_some (lookup (nat_eq (number_in text tokens t)) c.args.labels.now.entries))) tokens at c.args.to blank c.loop-at-test.true (omega arith)
-      (ap (λ n. is_ref (get_or tokens at blank).kind && not (is_some (lookup (nat_eq n) c.args.labels.now.entries))) (sym (number_at_place text tokens c.args.numbers.now at blank is (omega arith))) ∙ sym c.is_unknown.ensures ∙ c.if-is_unknown.false)
+      found_later (is_unknown (λ t. is_some (lookup (nat_eq (number_in text tokens t)) c.args.labels.now))) tokens at c.args.to blank c.loop-at-test.true (omega arith)
+      (ap (λ n. is_ref (get_or tokens at blank).kind && not (is_some (lookup (nat_eq n) c.args.labels.now))) (sym (number_at_place text tokens c.args.numbers.now at blank is (omega arith))) ∙ sym c.is_unknown.ensures ∙ c.if-is_unknown.false)
       ∙ c.loop-at.invariant.left text is;
 }

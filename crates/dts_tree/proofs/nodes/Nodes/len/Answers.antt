@@ -1,13 +1,21 @@
-use Rattle.std.proofs.Common.{◌≡◌, ◌<◌, List, ℕ, [], length, subst, nat_eq, get_or}
+use Rattle.std.proofs.Common.{◌≡◌, ◌<◌, ◌-◌, ◌+◌, ◌∙◌, ◌++◌, ◌∷◌, List, ℕ, [], Some, None, length, subst, nat_eq, get_or, ap, sym, refl, arith}
+use Rattle.std.specs.Prelude.{slice_get}
 use Rattle.std.specs.Cmp.Lexicographic.{pointwise}
+use Rattle.std.proofs.lemmas.Result.{IfOk-from_err}
+use Rattle.std.proofs.lemmas.List.{length-map}
+use Rattle.ordered_map.specs.Entries.{place_of}
 use Rattle.dts_tree.specs.Path.{paths_of}
-use Rattle.dts_tree.proofs.NumberedLemmas.{path_eq-numbers}
+use Rattle.dts_tree.specs.Numbered.{same_key, keys_of, depths_of}
+use Rattle.dts_tree.proofs.ExitLemmas.{at_exit}
+use Rattle.dts_tree.proofs.NumberedLemmas.{path_eq-numbers, numbered_root, depth-child, key-child, numbered-child, child_known, child_new, nowhere, place-position, paths_of-push}
 use Rattle.dts_tree.proofs.nodes.Nodes.len.Goals as goal
+
+pub returns-clause-len : goal.returns-clause-len
+returns-clause-len c = omega (arith, c.len.ensures.len, ap length c.self.view_is, c.self.invariant.paths.each, length-map c.self.inside.children (λ e. e.0))
 
 pub returns-clause-root : goal.returns-clause-root
 returns-clause-root c = subst (λ (paths : List (List ℕ)). get_or paths 0 [] ≡ []) c.self.view_is c.self.invariant.paths.root
 
 pub returns-clause-apart : goal.returns-clause-apart
 returns-clause-apart c =
-    let keys = c.self.inside.keys.keys in
-    subst (λ (paths : List (List ℕ)). (j k : ℕ) → j < length paths → k < length paths → pointwise nat_eq (get_or paths j []) (get_or paths k []) ≡ nat_eq j k) c.self.view_is (path_eq-numbers keys (paths_of keys) c.self.invariant.paths)
+    subst (λ (paths : List (List ℕ)). (j k : ℕ) → j < length paths → k < length paths → pointwise nat_eq (get_or paths j []) (get_or paths k []) ≡ nat_eq j k) c.self.view_is (path_eq-numbers (keys_of c.self.inside.children) (paths_of (keys_of c.self.inside.children)) c.self.invariant.paths)

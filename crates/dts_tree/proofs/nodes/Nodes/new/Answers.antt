@@ -1,14 +1,18 @@
-use Rattle.std.proofs.Common.{◌≡◌, ◌∙◌, ◌++◌, ap, List, [], ◌∷◌, ℕ}
-use Rattle.dts_tree.proofs.NumberedLemmas.{numbered_root, paths_of-none, none_long}
+use Rattle.std.proofs.Common.{◌≡◌, ◌<◌, ◌-◌, ◌+◌, ◌∙◌, ◌++◌, ◌∷◌, List, ℕ, [], Some, None, length, subst, nat_eq, get_or, ap, sym, refl, arith}
+use Rattle.std.specs.Prelude.{slice_get}
+use Rattle.std.specs.Cmp.Lexicographic.{pointwise}
+use Rattle.std.proofs.lemmas.Result.{IfOk-from_err}
+use Rattle.std.proofs.lemmas.List.{length-map}
+use Rattle.ordered_map.specs.Entries.{place_of}
+use Rattle.dts_tree.specs.Path.{paths_of}
+use Rattle.dts_tree.specs.Numbered.{same_key, keys_of, depths_of}
+use Rattle.dts_tree.proofs.ExitLemmas.{at_exit}
+use Rattle.dts_tree.proofs.NumberedLemmas.{path_eq-numbers, numbered_root, depth-child, key-child, numbered-child, child_known, child_new, nowhere, place-position, paths_of-push}
 use Rattle.dts_tree.proofs.nodes.Nodes.new.Goals as goal
 
 pub invariant_of-result : goal.invariant_of-result
-invariant_of-result c =
-    let none : c.new.result.keys ≡ [] = none_long c.new.result.keys c.new.ensures.len in
-    let depths : c.push.new.self.items ≡ 0 ∷ [] = c.in_ok-push.ensures.items ∙ ap (λ (ds : List ℕ). ds ++ 0 ∷ []) c.new-depths.ensures.items in
-    rw (none, depths) numbered_root
+invariant_of-result c = rw c.new.ensures numbered_root
 
 pub returns : goal.returns
-returns c =
-    let none : c.new.result.keys ≡ [] = none_long c.new.result.keys c.new.ensures.len in
-    rw none paths_of-none
+unfolding paths_of
+returns c = rw c.new.ensures refl

@@ -11,7 +11,7 @@ use Rattle.dts_tree.proofs.reader.Reader.add.Goals as goal
 pub returns-in_default-clause-fault : goal.returns-in_default-clause-fault
 returns-in_default-clause-fault c = λ _.
     let self = c.args.self.now in
-    ap (added nat_eq (reading self) c.args.at) (lookup-labels self.nodes c.args.label self.labels.entries ∙ ap (option_map (path_at self.nodes)) (sym c.in_default.ensures.value))
+    ap (added nat_eq (reading self) c.args.at) (lookup-labels self.nodes c.args.label self.labels ∙ ap (option_map (path_at self.nodes)) (sym c.in_default.ensures))
 
 pub returns-in_default-clause-ok : goal.returns-in_default-clause-ok
 returns-in_default-clause-ok c = tt
@@ -19,7 +19,7 @@ returns-in_default-clause-ok c = tt
 pub returns-clause-standing : goal.returns-clause-standing
 returns-clause-standing c =
     let self = c.args.self.now in
-    let inside : c.in-Some.node.now < length self.nodes = lookup-below (length self.nodes) c.in-Some.node.now c.args.label self.labels.entries c.requires.labels (sym c.in-Some.ensures.value) in
+    let inside : c.in-Some.node.now < length self.nodes = lookup-below (length self.nodes) c.in-Some.node.now c.args.label self.labels c.requires.labels (sym c.in-Some.ensures) in
     record {
       some = c.requires.some;
       root = c.requires.root;
@@ -32,7 +32,7 @@ returns-clause-standing c =
 pub returns-clause-ok : goal.returns-clause-ok
 returns-clause-ok c =
     let self = c.args.self.now in
-    ap (added nat_eq (reading self) c.args.at) (lookup-labels self.nodes c.args.label self.labels.entries ∙ ap (option_map (path_at self.nodes)) (sym c.in-Some.ensures.value))
+    ap (added nat_eq (reading self) c.args.at) (lookup-labels self.nodes c.args.label self.labels ∙ ap (option_map (path_at self.nodes)) (sym c.in-Some.ensures))
     ∙ rw (c.in_ok-push.ensures.items, reverse-append self.bodies.items (c.in-Some.node.now ∷ [])) refl
 
 pub returns-in_err-push : goal.returns-in_err-push

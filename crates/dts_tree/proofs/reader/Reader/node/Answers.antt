@@ -13,8 +13,8 @@ returns-in-Some-clause-fault c =
     let self = c.args.self.now in
     let path : List ℕ = c.args.name ∷ get_or self.nodes c.here-parent.result [] in
     let deep : 32 < length path = omega (arith, c.if-depth-ge-DEEPEST.true, c.depth.ensures) in
-    let is : elsewhere nat_eq (map (label_at self.nodes) self.labels.entries) path self.waiting.items ≡ Some c.in-Some.place =
-    sym (deep-elsewhere self.nodes self.labels.entries path self.waiting.items c.requires.standing.shallow deep c.requires.standing.labels) ∙ (sym c.elsewhere.ensures ∙ c.in-Some.is) in
+    let is : elsewhere nat_eq (map (label_at self.nodes) self.labels) path self.waiting.items ≡ Some c.in-Some.place =
+    sym (deep-elsewhere self.nodes self.labels path self.waiting.items c.requires.standing.shallow deep c.requires.standing.labels) ∙ (sym c.elsewhere.ensures ∙ c.in-Some.is) in
     rw (← c.here-parent.ensures.path) (λ _. ap (node_opened nat_eq (reading self) path c.args.at) is)
 
 pub returns-in-None-clause-fault : goal.returns-in-None-clause-fault
@@ -22,8 +22,8 @@ returns-in-None-clause-fault c =
     let self = c.args.self.now in
     let path : List ℕ = c.args.name ∷ get_or self.nodes c.here-parent.result [] in
     let deep : 32 < length path = omega (arith, c.if-depth-ge-DEEPEST.true, c.depth.ensures) in
-    let is : elsewhere nat_eq (map (label_at self.nodes) self.labels.entries) path self.waiting.items ≡ None =
-    sym (deep-elsewhere self.nodes self.labels.entries path self.waiting.items c.requires.standing.shallow deep c.requires.standing.labels) ∙ (sym c.elsewhere.ensures ∙ c.in-None.is) in
+    let is : elsewhere nat_eq (map (label_at self.nodes) self.labels) path self.waiting.items ≡ None =
+    sym (deep-elsewhere self.nodes self.labels path self.waiting.items c.requires.standing.shallow deep c.requires.standing.labels) ∙ (sym c.elsewhere.ensures ∙ c.in-None.is) in
     rw (← c.here-parent.ensures.path) (λ _. ap (node_opened nat_eq (reading self) path c.args.at) is
     ∙ cond-false _ (Ok (opened nat_eq (reading self) path c.args.at)) (Err (TooDeep c.args.at)) (lt-leb (length path) 32 deep))
 
@@ -34,9 +34,9 @@ returns-in-Some-elsewhere-clause-fault c =
     let k = c.in_ok-node.node in
     let path : List ℕ = c.args.name ∷ get_or self.nodes c.here-parent.result [] in
     let g : Grown self.nodes new path k = grown self.nodes new path k c.in_ok-node.ensures.ok c.in_ok-node.ensures.number in
-    let is : elsewhere nat_eq (map (label_at self.nodes) self.labels.entries) path self.waiting.items ≡ Some c.in-Some-elsewhere.place =
+    let is : elsewhere nat_eq (map (label_at self.nodes) self.labels) path self.waiting.items ≡ Some c.in-Some-elsewhere.place =
     ap (λ ls. elsewhere nat_eq ls path self.waiting.items) (sym (labels-grown self new path k c.requires.standing g))
-    ∙ (sym (shallow-elsewhere new self.labels.entries path k self.waiting.items g.inside g.at c.in_ok-node.ensures.apart (all_below-wider (length self.nodes) (length new) (map (λ e. e.1) self.labels.entries) g.long c.requires.standing.labels))
+    ∙ (sym (shallow-elsewhere new self.labels path k self.waiting.items g.inside g.at c.in_ok-node.ensures.apart (all_below-wider (length self.nodes) (length new) (map (λ e. e.1) self.labels) g.long c.requires.standing.labels))
     ∙ (sym c.elsewhere-2.ensures ∙ c.in-Some-elsewhere.is)) in
     rw (← c.here-parent.ensures.path) (λ _. ap (node_opened nat_eq (reading self) path c.args.at) is)
 
@@ -61,9 +61,9 @@ returns-clause-ok c =
     let path : List ℕ = c.args.name ∷ get_or self.nodes c.here-parent.result [] in
     let g : Grown self.nodes new path k = grown self.nodes new path k c.in_ok-node.ensures.ok c.in_ok-node.ensures.number in
     let short : length path ≤ 32 = omega (arith, c.if-depth-ge-DEEPEST.false, c.depth.ensures) in
-    let is : elsewhere nat_eq (map (label_at self.nodes) self.labels.entries) path self.waiting.items ≡ None =
+    let is : elsewhere nat_eq (map (label_at self.nodes) self.labels) path self.waiting.items ≡ None =
     ap (λ ls. elsewhere nat_eq ls path self.waiting.items) (sym (labels-grown self new path k c.requires.standing g))
-    ∙ (sym (shallow-elsewhere new self.labels.entries path k self.waiting.items g.inside g.at c.in_ok-node.ensures.apart (all_below-wider (length self.nodes) (length new) (map (λ e. e.1) self.labels.entries) g.long c.requires.standing.labels))
+    ∙ (sym (shallow-elsewhere new self.labels path k self.waiting.items g.inside g.at c.in_ok-node.ensures.apart (all_below-wider (length self.nodes) (length new) (map (λ e. e.1) self.labels) g.long c.requires.standing.labels))
     ∙ (sym c.elsewhere-2.ensures ∙ c.in_default.is)) in
     rw (← c.here-parent.ensures.path) (on_ok_weaker c.open.result (λ d.
     ap (node_opened nat_eq (reading self) path c.args.at) is

@@ -5,4 +5,4 @@ use Rattle.dts_tree.proofs.tree.Tree.count.Goals as goal
 pub returns : goal.returns
 returns c =
     let t = c.self.inside in
-    c.len.ensures ∙ tree-count t.text t.tokens t.nodes t.order t.places t.labels.entries t.values.entries c.args.self.now c.self.view_is
+    c.len.ensures ∙ tree-count t.text t.tokens t.nodes t.order t.places t.labels t.values c.args.self.now c.self.view_is

@@ -30,7 +30,7 @@ returns-clause-tree c =
     let layout = c.in_ok-layout.layout in
     let h = c.in_ok-layout.ensures.layout in
     let settings = c.as_slice.ensures.value in
-    settled-tree c.args.text c.args.tokens reader layout.order layout.places layout.values.entries
+    settled-tree c.args.text c.args.tokens reader layout.order layout.places layout.values
     c.requires.standing c.requires.bytes c.apart.ensures h.order h.inside (rw settings at h.placed) (h.values ∙ ap (values_of nat_eq nat_eq) settings)
 
 pub returns-in_err-layout : goal.returns-in_err-layout
