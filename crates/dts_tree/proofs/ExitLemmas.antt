@@ -1,6 +1,6 @@
 -- What the exit of a `?` says of its error.
-use Rattle.std.proofs.Common.{◌≡◌, ◌≢◌, Result, refl}
-use Rattle.std.specs.Result.{IsErrAnd, IfErr, OnErr}
+use Rattle.std.proofs.Common.{◌≡◌, ◌≢◌, Result, Ok, Err, refl}
+use Rattle.std.specs.Result.{IsErrAnd, IfErr, IfOk, OnErr}
 use Rattle.std.proofs.lemmas.Result.{err_from_is_err_and}
 use Rattle.dts_tree.specs.declared.fault.TreeFault.{TreeFault}
 use Rattle.dts_tree.specs.declared.fault.TreeFault.TheVariants.{Memory}
@@ -16,3 +16,8 @@ at_memory r exit = passed_on r (λ fault. fault ≡ Memory) Memory exit refl
 
 pub unless_memory : {T : Type 0} (r : Result T TreeFault) (P : TreeFault → Type 0) → IsErrAnd r (λ fault. fault ≡ Memory) → IfErr r (λ fault. fault ≢ Memory → P fault)
 unless_memory r P exit = passed_on r (λ fault. fault ≢ Memory → P fault) Memory exit (λ other. absurd (other refl))
+
+-- two facts of one value
+pub IfOk-both : {X Y : Type 0} (r : Result X Y) (P Q : X → Type 0) → IfOk r P → IfOk r Q → IfOk r (λ x. P x × Q x)
+IfOk-both (Ok x) P Q p q = (p, q)
+IfOk-both (Err e) P Q p q = tt

@@ -11,7 +11,9 @@ pub mod SettleLemmas
 pub mod SettledLemmas
 pub mod ShapeLemmas
 pub mod SayingLemmas
+pub mod TreeOrderLemmas
 pub mod TreeLemmas
+pub mod LedLemmas
 pub mod TreeLookLemmas
 pub mod TextReadingLemmas
 pub mod TurnLemmas

@@ -216,12 +216,12 @@ place-position p (e ∷ es) =
     ∙ elim (p e.0) as (λ (b : Bool). cond b (Some 0) (option_map (λ n. n + 1) (position p (keys_of es))) ≡ cond (nat_lt (cond (not b) (1 + position_or_len p (keys_of es)) 0) (length (keys_of (e ∷ es)))) (Some (cond (not b) (1 + position_or_len p (keys_of es)) 0)) None) [
       | true ↦ sym (cond-true _ (Some 0) None (lt-ltb 0 (length (keys_of (e ∷ es))) (omega arith)))
       | false ↦ ⊎_elim
-      (λ inside. ap (option_map (λ n. n + 1)) (cond-true _ (Some (position_or_len p (keys_of es))) None (lt-ltb (position_or_len p (keys_of es)) (length (keys_of es)) inside))
-      ∙ sym (cond-true _ (Some (1 + position_or_len p (keys_of es))) None (lt-ltb (1 + position_or_len p (keys_of es)) (length (keys_of (e ∷ es))) (omega (arith, inside)))
-      ∙ ap Some (omega arith)))
-      (λ past. ap (option_map (λ n. n + 1)) (cond-false _ (Some (position_or_len p (keys_of es))) None (le-ltb (position_or_len p (keys_of es)) (length (keys_of es)) past))
-      ∙ sym (cond-false _ (Some (1 + position_or_len p (keys_of es))) None (le-ltb (1 + position_or_len p (keys_of es)) (length (keys_of (e ∷ es))) (omega (arith, past)))))
-      (cases_lt (position_or_len p (keys_of es)) (length (keys_of es)))
+          (λ inside. ap (option_map (λ n. n + 1)) (cond-true _ (Some (position_or_len p (keys_of es))) None (lt-ltb (position_or_len p (keys_of es)) (length (keys_of es)) inside))
+          ∙ sym (cond-true _ (Some (1 + position_or_len p (keys_of es))) None (lt-ltb (1 + position_or_len p (keys_of es)) (length (keys_of (e ∷ es))) (omega (arith, inside)))
+          ∙ ap Some (omega arith)))
+          (λ past. ap (option_map (λ n. n + 1)) (cond-false _ (Some (position_or_len p (keys_of es))) None (le-ltb (position_or_len p (keys_of es)) (length (keys_of es)) past))
+          ∙ sym (cond-false _ (Some (1 + position_or_len p (keys_of es))) None (le-ltb (1 + position_or_len p (keys_of es)) (length (keys_of (e ∷ es))) (omega (arith, past)))))
+          (cases_lt (position_or_len p (keys_of es)) (length (keys_of es)))
     ]
 
 pub nowhere : (p : ℕ × ℕ → Bool) (es : List ((ℕ × ℕ) × ℕ)) → place_of p es ≡ None → position_or_len p (keys_of es) ≡ length (keys_of es)

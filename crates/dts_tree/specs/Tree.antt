@@ -10,7 +10,7 @@ use Rattle.dts_tree.specs.Names.{name_of, name_at, token_at, first_with, known_b
 use Rattle.dts_tree.specs.Reading.{Reading}
 use Rattle.dts_tree.specs.Reader.{AllBelow, path_at}
 use Rattle.dts_tree.specs.Shape.{tree_order_of}
-use Rattle.dts_tree.specs.Settled.{first_place, values_of, same_property}
+use Rattle.dts_tree.specs.Settled.{IsLed, first_place, values_of, same_property}
 
 -- The paths of the nodes in tree order, where the name of each stands that is opened first, the
 -- values of properties by the path of their node and their name, each as the tokens that it is, and
@@ -59,7 +59,9 @@ AreNamed text tokens nodes = (k name : ℕ) (path : List ℕ) → path_at nodes 
 -- names are told by numbers that are theirs, and nodes stand in the order at their ranks
 pub record Settled (text : List ℕ) (tokens : List Token) (nodes : List (List ℕ)) (order ranks places : List ℕ) (labels : List (ℕ × ℕ)) (values : List ((ℕ × ℕ) × (ℕ × ℕ))) (find : List ℕ → Option ℕ) : Type 0 where
   pub few : length order < 2 ^ 32
+  pub some : 0 < length order
   pub inside : AllBelow (length nodes) order
+  pub led : IsLed nodes order
   pub long_ranks : length ranks ≡ length nodes
   pub ranked : (k : ℕ) → k < length nodes → slice_index ranks k ≡ position_or_len (nat_eq k) order
   pub long_places : length places ≡ length nodes

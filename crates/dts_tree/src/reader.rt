@@ -178,6 +178,7 @@ fn put_labels(
 pub(crate) fn read(alloc: Global, steps: &[Said<u32>]) -> Result<Reader, TreeFault>
     requires { length steps.now < 2 ^ 32 }
     ensures standing { IfOk result (λ reader. Standing reader) }
+    ensures few { IfOk result (λ reader. length reader.nodes ≤ length steps.now + 1) }
     ensures ok { IfOk result (λ reader. walked nat_eq nothing_read steps.now ≡ Ok (reading reader)) }
     ensures fault { IfErr result (λ fault. fault ≢ TreeFault.Memory → walked nat_eq nothing_read steps.now ≡ Err fault) }
 {

@@ -1,16 +1,15 @@
-ghost use Rattle.std.specs.Prelude.{◌≡◌, ℕ, ◌<◌, ◌≤◌, ◌^◌, [], length, map, IfOk, IfErr, OnOk, nat_eq, slice_index, slice_index_or};
+ghost use Rattle.std.specs.Prelude.{◌≡◌, ℕ, ◌<◌, ◌≤◌, ◌^◌, [], length, map, IfOk, OnOk, nat_eq, slice_index, slice_index_or};
 ghost use Rattle.std.specs.List.{position_or_len};
 ghost use Rattle.dts_tree.specs.Path.{with_path};
 ghost use Rattle.dts_tree.specs.Reader.{path_at, AllBelow};
 ghost use Rattle.dts_tree.specs.Shape.{tree_order_of, ParentsOf};
-ghost use Rattle.dts_tree.specs.Settled.{IsLayout, first_place, values_of, with_value, with_place};
+ghost use Rattle.dts_tree.specs.Settled.{IsLayout, IsLed, first_place, values_of, with_value, with_place};
 
-use crate::fault::TreeFault;
 use crate::nodes::Nodes;
 use crate::order::tree_order;
 use crate::setting::Setting;
-use ordered_map::OrderedMap;
 use item_list::Items;
+use ordered_map::OrderedMap;
 use std::alloc::{AllocError, Global};
 
 /// Where the nodes of a text stand, and the values that stand in the end.
@@ -30,21 +29,14 @@ pub(crate) fn layout_of(
     alloc: Global,
     nodes: &Nodes,
     settings: &[Setting<u32, u32>],
-) -> Result<Layout, TreeFault>
+) -> Result<Layout, AllocError>
     requires some { 0 < length nodes.now }
+    requires few { length nodes.now < 2 ^ 32 }
     requires shallow { (k : ℕ) → length (path_at nodes.now k) ≤ 32 }
-    ensures layout { IfOk result (λ layout. IsLayout nodes.now settings.now layout) }
-    ensures fault { IfErr result (λ fault. fault ≡ TreeFault.Memory) }
+    ensures { IfOk result (λ layout. IsLayout nodes.now settings.now layout) }
 {
     let count = nodes.len();
-    // A text that is short enough for its places has fewer nodes.
-    if count > u32::MAX as usize {
-        return Err(TreeFault::Memory);
-    }
     let order = order_of(alloc, nodes)?;
-    if order.len() > u32::MAX as usize {
-        return Err(TreeFault::Memory);
-    }
     let ranks = ranks_of(alloc, order.as_slice(), count)?;
     let places = places_of(alloc, settings, count)?;
     let values = values_of(alloc, settings)?;
@@ -63,6 +55,8 @@ fn order_of(alloc: Global, nodes: &Nodes) -> Result<Vec<u32>, AllocError>
     requires shallow { (k : ℕ) → length (path_at nodes.now k) ≤ 32 }
     ensures order { IfOk result (λ order. map (path_at nodes.now) order.items ≡ tree_order_of nat_eq nodes.now) }
     ensures inside { IfOk result (λ order. AllBelow (length nodes.now) order.items) }
+    ensures long { IfOk result (λ order. length order.items ≡ length nodes.now) }
+    ensures led { IfOk result (λ order. IsLed nodes.now order.items) }
 {
     let _count = nodes.len();
     let parents = parents_of(alloc, nodes)?;

@@ -1,4 +1,4 @@
-ghost use Rattle.std.specs.Prelude.{◌≡◌, ◌≢◌, ◌≤◌, ◌<◌, ◌^◌, ℕ, List, length, map, nat_eq, slice_index, IfOk, IfErr};
+ghost use Rattle.std.specs.Prelude.{◌≡◌, ◌≢◌, ◌≤◌, ◌<◌, ◌+◌, ◌^◌, ℕ, List, length, map, nat_eq, slice_index, IfOk, IfErr};
 ghost use Rattle.std.specs.List.{AllByRecursion};
 ghost use Rattle.dts_lex.specs.Lex.{SpansRise};
 ghost use Rattle.dts_tree.specs.Firsts.{found_in};
@@ -36,6 +36,7 @@ pub(crate) fn reading_of(
     requires spans { SpansRise 0 (length text.now) tokens.now }
     ensures ok { IfOk result (λ r. IsOutcome text.now tokens.now (Ok (reading_in text.now tokens.now r.reader))) }
     ensures standing { IfOk result (λ r. Standing r.reader) }
+    ensures few { IfOk result (λ r. length r.reader.nodes < 2 ^ 32) }
     ensures named { IfOk result (λ r. AreNamed text.now tokens.now r.reader.nodes) }
     ensures firsts { IfOk result (λ r. (q : List ℕ)
         → found_in r.names.firsts q ≡ known_before (first_with text.now tokens.now q) (length tokens.now)) }
@@ -58,6 +59,7 @@ fn reader_of(
     requires numbers { numbers.now ≡ map (number_in text.now tokens.now) tokens.now }
     ensures ok { IfOk result (λ reader. IsOutcome text.now tokens.now (Ok (reading_in text.now tokens.now reader))) }
     ensures standing { IfOk result (λ reader. Standing reader) }
+    ensures few { IfOk result (λ reader. length reader.nodes < 2 ^ 32) }
     ensures named { IfOk result (λ reader. AreNamed text.now tokens.now reader.nodes) }
     ensures fault { IfErr result (λ fault. fault ≢ TreeFault.Memory → IsOutcome text.now tokens.now (Err fault)) }
 {
@@ -99,6 +101,7 @@ fn read_steps(
     requires within { AllByRecursion (IsStepWithin (length tokens.now)) steps.now }
     requires few { length steps.now < 2 ^ 32 }
     ensures standing { IfOk result (λ reader. Standing reader) }
+    ensures few { IfOk result (λ reader. length reader.nodes ≤ length steps.now + 1) }
     ensures ok { IfOk result (λ reader. (text : List ℕ) → numbers.now ≡ map (number_in text tokens.now) tokens.now
         → walked nat_eq nothing_read (map (said_with (number_in text tokens.now) tokens.now) steps.now) ≡ Ok (reading reader)) }
     ensures fault { IfErr result (λ fault. fault ≢ TreeFault.Memory → (text : List ℕ) → numbers.now ≡ map (number_in text tokens.now) tokens.now

@@ -1,4 +1,4 @@
-ghost use Rattle.std.specs.Prelude.{◌≡◌, ◌<◌, ◌≤◌, ◌^◌, ℕ, List, [], length, slice_index, slice_index_or, slice_range, IfOk, IfErr};
+ghost use Rattle.std.specs.Prelude.{◌≡◌, ◌<◌, ◌≤◌, ◌^◌, ℕ, List, [], length, slice_index, slice_index_or, slice_range, IfOk, IfErr, IfSome};
 ghost use Rattle.dts_tree.specs.Firsts.{found_in};
 ghost use Rattle.dts_tree.specs.Names.{first_with, known_before};
 ghost use Rattle.dts_tree.specs.Tree.{own_name, parent_among};
@@ -10,8 +10,8 @@ use crate::nodes::Nodes;
 use crate::reader::Reader;
 use crate::settled::{Layout, layout_of};
 use dts_lex::Token;
-use ordered_map::OrderedMap;
 use item_list::Items;
+use ordered_map::OrderedMap;
 use std::alloc::{AllocError, Global};
 use std::marker::Model;
 
@@ -76,6 +76,7 @@ impl Tree {
         requires standing { Standing reader }
         requires firsts { (q : List ℕ) → found_in firsts q ≡ known_before (first_with text tokens q) (length tokens) }
         requires named { AreNamed text tokens reader.nodes }
+        requires few { length reader.nodes < 2 ^ 32 }
         ensures tree { IfOk result (λ tree. tree ≡ tree_of text tokens (reading_in text tokens reader)) }
         ensures fault { IfErr result (λ fault. fault ≡ TreeFault.Memory) }
     {
@@ -101,9 +102,10 @@ impl Tree {
         })
     }
 
-    /// How many nodes there are.
+    /// How many nodes there are; the root is always there.
     pub fn count(&self) -> u32
-        ensures { result ≡ length self.now.nodes }
+        ensures count { result ≡ length self.now.nodes }
+        ensures root { 0 < result }
     {
         self.order.len() as u32
     }
@@ -128,10 +130,11 @@ impl Tree {
         name_of(self.text.as_slice(), &self.tokens.as_slice()[name as usize])
     }
 
-    /// The parent of a node; None for the root.
+    /// The parent of a node, which has a lower number; None for the root.
     pub fn parent(&self, node: u32) -> Option<u32>
         requires { node < length self.now.nodes }
-        ensures { result ≡ parent_among self.now.nodes (slice_index_or self.now.nodes node []) }
+        ensures parent { result ≡ parent_among self.now.nodes (slice_index_or self.now.nodes node []) }
+        ensures lower { IfSome result (λ parent. parent < node) }
     {
         let number = self.order.as_slice()[node as usize];
         if number == 0 {

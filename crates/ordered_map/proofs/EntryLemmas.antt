@@ -50,8 +50,8 @@ module _ {K V : Type 0} where
       elim (passes e.0) as (λ (b : Bool). cond b (Some 0) (option_map (λ k. k + 1) (place_of passes es)) ≡ Some n → (n < length (e ∷ es)) × (cond b (Some e.1) (lookup passes es) ≡ Some (get_or (e ∷ es) n d).1)) [
         | true ↦ λ first. (let z : 0 ≡ n = cc in subst (λ (m : ℕ). (m < length (e ∷ es)) × (Some e.1 ≡ Some (get_or (e ∷ es) m d).1)) z (omega arith, refl))
         | false ↦ λ later. (let b = before (place_of passes es) n later in
-        let f = place-found passes es b.at d b.there in
-        subst (λ (m : ℕ). (m < length (e ∷ es)) × (lookup passes es ≡ Some (get_or (e ∷ es) m d).1)) (sym b.next) (omega (arith, f.0), f.1))
+            let f = place-found passes es b.at d b.there in
+            subst (λ (m : ℕ). (m < length (e ∷ es)) × (lookup passes es ≡ Some (get_or (e ∷ es) m d).1)) (sym b.next) (omega (arith, f.0), f.1))
       ] is
 
   pub place-inside : (passes : K → Bool) (es : List (K × V)) (n : ℕ) → place_of passes es ≡ Some n → n < length es
@@ -92,7 +92,7 @@ module _ {K V : Type 0} where
       elim (same key e.0) as (λ (b : Bool). cond b (Some 0) (option_map (λ k. k + 1) (place_of (same key) es)) ≡ Some n → cond b ((e.0, value) ∷ es) (e ∷ insert_entry same es key value) ≡ set (e ∷ es) n ((get_or (e ∷ es) n d).0, value)) [
         | true ↦ λ first. (let z : 0 ≡ n = cc in subst (λ (m : ℕ). (e.0, value) ∷ es ≡ set (e ∷ es) m ((get_or (e ∷ es) m d).0, value)) z refl)
         | false ↦ λ later. (let b = before (place_of (same key) es) n later in
-        subst (λ (m : ℕ). e ∷ insert_entry same es key value ≡ set (e ∷ es) m ((get_or (e ∷ es) m d).0, value)) (sym b.next) (ap (λ xs. e ∷ xs) (insert-there same es key value b.at d b.there)))
+            subst (λ (m : ℕ). e ∷ insert_entry same es key value ≡ set (e ∷ es) m ((get_or (e ∷ es) m d).0, value)) (sym b.next) (ap (λ xs. e ∷ xs) (insert-there same es key value b.at d b.there)))
       ] is
 
   -- another value for a key

@@ -17,7 +17,10 @@ pub struct OrderedMap<K: Ord, V> {
 impl<K: Ord + Drop, V: Drop> Drop for OrderedMap<K, V> {
     /// Ends both parts, so that an owner's code has one call for it.
     fn drop(self) {
-        let OrderedMap { entries: _, places: _ } = self;
+        let OrderedMap {
+            entries: _,
+            places: _,
+        } = self;
     }
 }
 

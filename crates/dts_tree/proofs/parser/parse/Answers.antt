@@ -14,6 +14,7 @@ of_reader-requires c =
       standing = c.in_ok-read.ensures.standing;
       firsts = c.in_ok-read.ensures.firsts;
       named = c.in_ok-read.ensures.named;
+      few = c.in_ok-read.ensures.few;
     })
 
 pub returns-clause-tree : goal.returns-clause-tree

@@ -42,9 +42,11 @@ loop-said-preserved c =
           ∙ (ap (walked nat_eq (reading c.loop-said.reader)) (sym next) ∙ c.loop-said.invariant.rest);
     }
 
+pub returns-clause-few : goal.returns-clause-few
+returns-clause-few c = omega (arith, c.loop-said.invariant.few, c.loop-said-test.false)
+
 pub returns-clause-ok : goal.returns-clause-ok
 returns-clause-ok c =
     sym c.loop-said.invariant.rest
     ∙ (ap (walked nat_eq (reading c.loop-said.reader)) (drop_all c.loop-said.said-index c.args.steps.now c.loop-said-test.false)
     ∙ walked-end nat_eq (reading c.loop-said.reader))
-

@@ -13,6 +13,9 @@ returns-clause-ok c =
     (λ reader is text named. ap (walked nat_eq nothing_read) (sym (c.as_slice.ensures.value ∙ c.in_ok-said.ensures.said text named)) ∙ is)
     c.read.ensures.ok
 
+pub returns-clause-few : goal.returns-clause-few
+returns-clause-few c = IfOk-weaker c.read.result _ _ (λ reader few. omega (arith, few, c.in_ok-said.ensures.long, ap length c.as_slice.ensures.value)) c.read.ensures.few
+
 pub returns-clause-fault : goal.returns-clause-fault
 returns-clause-fault c =
     IfErr-weaker c.read.result _ _
@@ -24,6 +27,7 @@ returns-in_err-said c =
     let exit = c.from_residual.ensures in
     record {
       standing = IfOk-from_err _ _ exit.0;
+      few = IfOk-from_err _ _ exit.0;
       ok = IfOk-from_err _ _ exit.0;
       fault = unless_memory _ _ exit.1;
     }

@@ -27,6 +27,7 @@ pub returns-in_err-outline : goal.returns-in_err-outline
 returns-in_err-outline c = record {
   ok = IfOk-from_err _ _ c.from_residual.ensures.0;
   standing = IfOk-from_err _ _ c.from_residual.ensures.0;
+  few = IfOk-from_err _ _ c.from_residual.ensures.0;
   named = IfOk-from_err _ _ c.from_residual.ensures.0;
   fault = unless_memory _ _ c.from_residual.ensures.1;
 }
@@ -38,6 +39,7 @@ returns-in_err-reader c =
     record {
       ok = IfOk-from_err _ _ exit.ensures.0;
       standing = IfOk-from_err _ _ exit.ensures.0;
+      few = IfOk-from_err _ _ exit.ensures.0;
       named = IfOk-from_err _ _ exit.ensures.0;
       fault = passed_on _ _ c.in_err-reader.field-0.0 exit.ensures.1 (λ other. outcome_step c.args.text.now c.args.tokens.now (λ i. omega (arith, c.type_inv.text i)) c.in_ok-outline.outline.steps c.in_ok-outline.ensures.within c.in_ok-outline.outline.fault c.in_err-reader.field-0.0 c.in_ok-outline.ensures.outline
           (ap (λ steps. walked nat_eq nothing_read (said_of steps)) (sym c.as_slice.ensures) ∙ c.in_err-reader.ensures.fault other c.args.text.now c.requires.numbers));
@@ -49,6 +51,7 @@ returns-in-Some c =
     record {
       ok = tt;
       standing = tt;
+      few = tt;
       named = tt;
       fault = λ other. outcome_behind c.args.text.now c.args.tokens.now (λ i. omega (arith, c.type_inv.text i)) c.in_ok-outline.outline.steps c.in_ok-outline.ensures.within c.in_ok-reader.reader
           (ap (λ steps. walked nat_eq nothing_read (said_of steps)) (sym c.as_slice.ensures) ∙ c.in_ok-reader.ensures.ok c.args.text.now c.requires.numbers)
@@ -63,6 +66,7 @@ returns c =
       ok = outcome_behind c.args.text.now c.args.tokens.now (λ i. omega (arith, c.type_inv.text i)) c.in_ok-outline.outline.steps c.in_ok-outline.ensures.within c.in_ok-reader.reader read
           c.in_ok-outline.outline.fault None c.in_ok-outline.ensures.outline (c.in-None.ensures c.args.text.now (λ i. omega (arith, c.type_inv.text i)) c.requires.numbers);
       standing = c.in_ok-reader.ensures.standing;
+      few = omega (arith, c.in_ok-reader.ensures.few, ap length c.as_slice.ensures, c.in_ok-outline.ensures.few, SpansRise-count 0 (length c.args.text.now) c.args.tokens.now c.requires.spans, c.requires.short);
       named = nodes_named c.args.text.now c.args.tokens.now c.in_ok-outline.outline.steps c.in_ok-reader.reader c.in_ok-outline.ensures.within read;
       fault = tt;
     }

@@ -18,6 +18,7 @@ pub returns-in_err-names : goal.returns-in_err-names
 returns-in_err-names c = record {
   ok = IfOk-from_err _ _ c.from_residual.ensures.0;
   standing = IfOk-from_err _ _ c.from_residual.ensures.0;
+  few = IfOk-from_err _ _ c.from_residual.ensures.0;
   named = IfOk-from_err _ _ c.from_residual.ensures.0;
   firsts = IfOk-from_err _ _ c.from_residual.ensures.0;
   fault = unless_memory _ _ c.from_residual.ensures.1;
@@ -29,6 +30,7 @@ returns-in_err-reader c =
     record {
       ok = IfOk-from_err _ _ exit.ensures.0;
       standing = IfOk-from_err _ _ exit.ensures.0;
+      few = IfOk-from_err _ _ exit.ensures.0;
       named = IfOk-from_err _ _ exit.ensures.0;
       firsts = IfOk-from_err _ _ exit.ensures.0;
       fault = passed_on _ _ c.in_err-reader.field-0.0 exit.ensures.1 c.in_err-reader.ensures.fault;
@@ -38,6 +40,7 @@ pub returns : goal.returns
 returns c = record {
   ok = c.in_ok-reader.ensures.ok;
   standing = c.in_ok-reader.ensures.standing;
+  few = c.in_ok-reader.ensures.few;
   named = c.in_ok-reader.ensures.named;
   firsts = c.in_ok-names.ensures.firsts;
   fault = tt;

@@ -1,6 +1,6 @@
 use Rattle.std.proofs.Common.{[], ◌∙◌, ap, length, nat_eq}
 use Rattle.std.proofs.lemmas.Result.{IfOk-from_err}
-use Rattle.dts_tree.proofs.ExitLemmas.{passed_on}
+use Rattle.dts_tree.proofs.ExitLemmas.{at_memory}
 use Rattle.dts_tree.specs.Settled.{values_of}
 use Rattle.dts_tree.proofs.SettleLemmas.{settled-tree}
 use Rattle.dts_tree.proofs.TreeLookLemmas.{below_values}
@@ -9,9 +9,11 @@ use Rattle.dts_tree.proofs.tree.Tree.of_reader.Goals as goal
 pub invariant_of-result : goal.invariant_of-result
 invariant_of-result c =
     let reader = c.args.reader in
-    let h = c.in_ok-layout.ensures.layout in
+    let h = c.in_ok-layout.ensures in
     record {
       few = h.few;
+      some = h.some;
+      led = h.led;
       inside = h.inside;
       long_ranks = h.long_ranks;
       ranked = h.ranked;
@@ -28,7 +30,7 @@ pub returns-clause-tree : goal.returns-clause-tree
 returns-clause-tree c =
     let reader = c.args.reader in
     let layout = c.in_ok-layout.layout in
-    let h = c.in_ok-layout.ensures.layout in
+    let h = c.in_ok-layout.ensures in
     let settings = c.as_slice.ensures.value in
     settled-tree c.args.text c.args.tokens reader layout.order layout.places layout.values
     c.requires.standing c.requires.bytes c.apart.ensures h.order h.inside (rw settings at h.placed) (h.values ∙ ap (values_of nat_eq nat_eq) settings)
@@ -36,4 +38,4 @@ returns-clause-tree c =
 pub returns-in_err-layout : goal.returns-in_err-layout
 returns-in_err-layout c =
     let exit = c.from_residual.ensures in
-    record { tree = IfOk-from_err _ _ exit.0; fault = passed_on _ _ c.in_err-layout.field-0.0 exit.1 c.in_err-layout.ensures.fault }
+    record { tree = IfOk-from_err _ _ exit.0; fault = at_memory _ exit.1 }
