@@ -95,7 +95,7 @@ module _ (parents : List ℕ) where
 abbrev pub Seen : ℕ → List ℕ → Type 0
 Seen x xs = position_or_len (nat_eq x) xs < length xs
 
-position-wider : (p : ℕ → Bool) (xs ys : List ℕ) → position_or_len p xs < length xs → position_or_len p (xs ++ ys) ≡ position_or_len p xs
+pub position-wider : {X : Type 0} (p : X → Bool) (xs ys : List X) → position_or_len p xs < length xs → position_or_len p (xs ++ ys) ≡ position_or_len p xs
 position-wider p [] ys h = absurd (omega (arith, h))
 position-wider p (x ∷ xs) ys h =
     elim (p x) as (λ (b : Bool). cond (not b) (1 + position_or_len p xs) 0 < suc (length xs) → cond (not b) (1 + position_or_len p (xs ++ ys)) 0 ≡ cond (not b) (1 + position_or_len p xs) 0) [

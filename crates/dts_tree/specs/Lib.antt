@@ -5,6 +5,7 @@ pub mod Numbered
 pub mod Order
 pub mod Outline
 pub mod Path
+pub mod Phandles
 pub mod Reader
 pub mod Reading
 pub mod Rename

@@ -1,5 +1,5 @@
 -- What callers see of a tree.
-use Rattle.std.specs.Prelude.{◌≡◌, ℕ, ◌<◌, List, [], ◌∷◌, Option, Some, None, length, map, nat_eq, ◌^◌, slice_index, slice_index_or, slice_range}
+use Rattle.std.specs.Prelude.{◌≡◌, ℕ, ◌<◌, ◌≤◌, List, [], ◌∷◌, Option, Some, None, length, map, nat_eq, ◌^◌, slice_index, slice_index_or, slice_range}
 use Rattle.std.specs.List.{position_or_len}
 use Rattle.std.specs.Map.{lookup}
 use Rattle.std.specs.Str.{bytes_eq}
@@ -57,7 +57,7 @@ abbrev pub AreNamed : List ℕ → List Token → List (List ℕ) → Type 0
 AreNamed text tokens nodes = (k name : ℕ) (path : List ℕ) → path_at nodes k ≡ name ∷ path → (name < length tokens) × (name_at text tokens name ≡ name_of text (token_at tokens name))
 
 -- names are told by numbers that are theirs, and nodes stand in the order at their ranks
-pub record Settled (text : List ℕ) (tokens : List Token) (nodes : List (List ℕ)) (order ranks places : List ℕ) (labels : List (ℕ × ℕ)) (values : List ((ℕ × ℕ) × (ℕ × ℕ))) (find : List ℕ → Option ℕ) : Type 0 where
+pub record Settled (text : List ℕ) (tokens : List Token) (nodes : List (List ℕ)) (order ranks places : List ℕ) (labels : List (ℕ × ℕ)) (values : List ((ℕ × ℕ) × (ℕ × ℕ))) (find : List ℕ → Option ℕ) (noted : ℕ) (find_phandle : ℕ → Option ℕ) (first_noted : ℕ → Option ℕ) : Type 0 where
   pub few : length order < 2 ^ 32
   pub some : 0 < length order
   pub inside : AllBelow (length nodes) order
@@ -71,6 +71,8 @@ pub record Settled (text : List ℕ) (tokens : List Token) (nodes : List (List �
   pub values_below : AllBelow (length nodes) (map (λ v. v.0.0) values)
   pub labels_below : AllBelow (length nodes) (map (λ l. l.1) labels)
   pub named : AreNamed text tokens nodes
+  pub noted_inside : noted ≤ length order
+  pub noted_found : (n : ℕ) → find_phandle n ≡ first_noted n
 
 -- the name and the path of a node in place of their numbers
 abbrev pub kept_value : (ℕ → List ℕ) → List (List ℕ) → (ℕ × ℕ) × (ℕ × ℕ) → (List (List ℕ) × List ℕ) × (ℕ × ℕ)

@@ -1,5 +1,5 @@
 -- What callers see of the values in a tree.
-use Rattle.std.specs.Prelude.{◌≡◌, ℕ, List, Bool, true, false, ◌&&◌, Option, Some, None, codes, length, map, nat_eq, slice_index_or, if◌then◌else◌}
+use Rattle.std.specs.Prelude.{◌≡◌, ℕ, List, [], ◌∷◌, Bool, true, false, not, ◌||◌, Option, Some, None, codes, filter, length, map, nat_eq, nat_lt, if◌then◌else◌}
 use Rattle.std.specs.List.{position}
 use Rattle.std.specs.Map.{lookup}
 use Rattle.std.specs.Option.{option_eq}
@@ -12,11 +12,11 @@ use Rattle.dts_tree.specs.declared.cell.Cell.{Cell}
 use Rattle.dts_tree.specs.declared.cell.Cell.TheVariants.{Num, Node}
 use Rattle.dts_tree.specs.declared.value.ValueCell.{ValueCell}
 use Rattle.dts_tree.specs.declared.value.ValueCell.TheVariants.{Number, Ref}
-use Rattle.dts_tree.specs.Names.{blank, name_of}
+use Rattle.dts_tree.specs.Names.{name_of}
 use Rattle.dts_tree.specs.Path.{number_of}
 use Rattle.dts_tree.specs.Settled.{same_property}
 use Rattle.dts_tree.specs.Tree.{DeviceTree}
-use Rattle.dts_tree.specs.Value.{EachPart, is_less, is_text, cells_in, strings_in, number_at}
+use Rattle.dts_tree.specs.Value.{EachPart, is_comma, is_greater, is_less, is_text, cells_in, strings_in, number_at}
 
 abbrev pub node_among : DeviceTree → Option (List (List ℕ)) → ℕ
 node_among t (Some path) = number_of bytes_eq t.nodes path
@@ -51,10 +51,20 @@ is_number kind.Directive = false
 is_number kind.Ref = false
 is_number kind.Sign = false
 
--- the number of a value that is one cell between its brackets
+-- the brackets of cells, and the commas between parts
+abbrev pub is_frame : List ℕ → Token → Bool
+is_frame text t = is_less text t || is_greater text t || is_comma text t
+
+-- the number of these tokens, where they are one token, a number
+abbrev pub lone_number : List ℕ → List Token → Option ℕ
+lone_number text [] = None
+lone_number text (t ∷ []) = if is_number t.kind then Some (number_at text t) else None
+lone_number text (t ∷ u ∷ ts) = None
+
+-- the number of a value whose cells, all parts together, are one number
 abbrev pub one_number : List ℕ → Option (List Token) → Option ℕ
 one_number text None = None
-one_number text (Some value) = if nat_eq (length value) 3 && is_number (slice_index_or value 1 blank).kind then Some (number_at text (slice_index_or value 1 blank)) else None
+one_number text (Some value) = lone_number text (filter (λ t. not (is_frame text t)) value)
 
 -- the node of a path has this phandle
 abbrev pub has_phandle : DeviceTree → ℕ → List (List ℕ) → Bool
@@ -62,5 +72,5 @@ has_phandle t n path = option_eq nat_eq (one_number t.text (lookup (same_propert
 
 -- the node that a cell stands for: for a number the first in tree order that has it as its phandle
 abbrev pub target_in : DeviceTree → Cell → Option ℕ
-target_in t (Node node) = Some node
+target_in t (Node node) = if nat_lt node (length t.nodes) then Some node else None
 target_in t (Num n) = position (has_phandle t n) t.nodes

@@ -22,6 +22,10 @@ is_comma text t = bytes_eq (bytes_of text t) (codes ",")
 unfoldable pub is_less : List ℕ → Token → Bool
 is_less text t = bytes_eq (bytes_of text t) (codes "<")
 
+-- the bracket behind cells
+unfoldable pub is_greater : List ℕ → Token → Bool
+is_greater text t = bytes_eq (bytes_of text t) (codes ">")
+
 abbrev pub is_text : Kind → Bool
 is_text kind.Text = true
 is_text kind.Word = false

@@ -9,6 +9,7 @@ mod nodes;
 mod order;
 mod outline;
 mod parser;
+mod phandles;
 mod place;
 mod reader;
 mod said;

@@ -13,6 +13,7 @@ use dts_lex::Token;
 use item_list::Items;
 use ordered_map::OrderedMap;
 use std::alloc::{AllocError, Global};
+use std::collections::BTreeMap;
 use std::marker::Model;
 
 /// The tree of a devicetree text: its nodes in tree order, each before its children, and their
@@ -29,6 +30,9 @@ pub struct Tree {
     labels: OrderedMap<u32, u32>,
     values: OrderedMap<(u32, u32), (u32, u32)>,
     firsts: Firsts,
+    /// The first node with each phandle, among so many nodes of the order.
+    pub(crate) phandles: BTreeMap<u32, u32>,
+    pub(crate) noted: u32,
 }
 
 impl Drop for Tree {
@@ -44,19 +48,24 @@ impl Drop for Tree {
             labels: _,
             values: _,
             firsts: _,
+            phandles: _,
+            noted: _,
         } = self;
     }
 }
 
 impl Model for Tree {
+    ghost use Rattle.std.specs.BTreeMap.{get};
+    ghost use Rattle.std.specs.Ordering.{nat_cmp};
     ghost use Rattle.dts_tree.specs.Firsts.{found_in};
+    ghost use Rattle.dts_tree.specs.Phandles.{first_of_noted};
     ghost use Rattle.dts_tree.specs.Tree.{DeviceTree, kept_tree, Settled};
 
     ghost Value = { DeviceTree };
 
     ghost view = { λ t. kept_tree t.text t.tokens t.nodes t.order t.places t.labels t.values };
 
-    ghost invariant = { λ t. Settled t.text t.tokens t.nodes t.order t.ranks t.places t.labels t.values (found_in t.firsts) };
+    ghost invariant = { λ t. Settled t.text t.tokens t.nodes t.order t.ranks t.places t.labels t.values (found_in t.firsts) t.noted (get nat_cmp t.phandles) (first_of_noted (kept_tree t.text t.tokens t.nodes t.order t.places t.labels t.values) t.noted) };
 }
 
 impl Tree {
@@ -64,7 +73,7 @@ impl Tree {
     ghost use Rattle.dts_tree.specs.TextReading.{reading_in};
     ghost use Rattle.dts_tree.specs.Tree.{tree_of, AreNamed};
 
-    /// The tree of what was read of a text.
+    /// The tree of what was read of a text, with its phandles noted.
     pub(crate) fn of_reader(
         alloc: Global,
         text: Items<u8>,
@@ -79,6 +88,26 @@ impl Tree {
         requires few { length reader.nodes < 2 ^ 32 }
         ensures tree { IfOk result (λ tree. tree ≡ tree_of text tokens (reading_in text tokens reader)) }
         ensures fault { IfErr result (λ fault. fault ≡ TreeFault.Memory) }
+    {
+        let mut tree = Tree::unnoted(alloc, text, tokens, reader, firsts)?;
+        tree.note_phandles()?;
+        Ok(tree)
+    }
+
+    /// The tree of what was read of a text.
+    fn unnoted(
+        alloc: Global,
+        text: Items<u8>,
+        tokens: Items<Token>,
+        reader: Reader,
+        firsts: Firsts,
+    ) -> Result<Tree, AllocError>
+        requires bytes { (i : ℕ) → slice_index text i < 256 }
+        requires standing { Standing reader }
+        requires firsts { (q : List ℕ) → found_in firsts q ≡ known_before (first_with text tokens q) (length tokens) }
+        requires named { AreNamed text tokens reader.nodes }
+        requires few { length reader.nodes < 2 ^ 32 }
+        ensures { IfOk result (λ tree. tree ≡ tree_of text tokens (reading_in text tokens reader)) }
     {
         reader.nodes.apart();
         let layout = layout_of(alloc, &reader.nodes, reader.settings.as_slice())?;
@@ -99,6 +128,8 @@ impl Tree {
             labels,
             values,
             firsts,
+            phandles: BTreeMap::new(alloc),
+            noted: 0,
         })
     }
 

@@ -1,14 +1,12 @@
-ghost use Rattle.std.specs.Prelude.{◌≡◌, ◌<◌, length, map, is_some, codes, Some, IfOk};
+ghost use Rattle.std.specs.Prelude.{◌≡◌, ◌<◌, length, map, is_some, IfOk};
 ghost use Rattle.std.specs.Option.{option_map};
-ghost use Rattle.std.specs.List.{position};
 ghost use Rattle.dts_tree.specs.Tree.{value_in};
-ghost use Rattle.dts_tree.specs.TreeValues.{AreCells, AreStrings, cell_in, has_phandle, is_number, one_number, target_in};
+ghost use Rattle.dts_tree.specs.TreeValues.{AreCells, AreStrings, cell_in};
 
 use crate::cell::Cell;
 use crate::names::name_of;
 use crate::tree::Tree;
-use crate::value::{ValueCell, cells_of, number_at, strings_of};
-use dts_lex::{Kind, Token};
+use crate::value::{ValueCell, cells_of, strings_of};
 use std::alloc::{AllocError, Global};
 
 impl Tree {
@@ -78,57 +76,4 @@ impl Tree {
         };
         strings_of(alloc, self.text(), value)
     }
-
-    /// The node that a cell stands for: for a number the first in tree order that has it as its
-    /// phandle.
-    pub fn target(&self, cell: &Cell) -> Option<u32>
-        ensures { result ≡ target_in self.now cell.now }
-    {
-        match *cell {
-            Cell::Node(node) => Some(node),
-            Cell::Num(n) => self.with_phandle(n),
-        }
-    }
-
-    fn with_phandle(&self, n: u32) -> Option<u32>
-        ensures { result ≡ position (has_phandle self.now n) self.now.nodes }
-    {
-        let count = self.count();
-        let mut node = 0;
-        while node < count {
-            if self.phandle(node) == Some(n) {
-                return Some(node);
-            }
-            node += 1;
-        }
-        None
-    }
-
-    /// The number that other nodes may tell a node by.
-    fn phandle(&self, node: u32) -> Option<u32>
-        requires { node < length self.now.nodes }
-        ensures { result ≡ one_number self.now.text (value_in self.now node (codes "phandle")) }
-    {
-        match self.value(node, b"phandle".as_slice()) {
-            Some(value) => number_between(self.text(), value),
-            None => None,
-        }
-    }
-}
-
-/// The number of a value that is one cell between its brackets.
-fn number_between(text: &[u8], value: &[Token]) -> Option<u32>
-    ensures { result ≡ one_number text.now (Some value.now) }
-{
-    if value.len() == 3 && is_number(value[1].kind) {
-        Some(number_at(text, &value[1]))
-    } else {
-        None
-    }
-}
-
-fn is_number(kind: Kind) -> bool
-    ensures { result ≡ is_number kind }
-{
-    matches!(kind, Kind::Number)
 }

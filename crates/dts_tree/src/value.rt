@@ -1,6 +1,7 @@
-ghost use Rattle.std.specs.Prelude.{◌≡◌, ◌≤◌, ◌<◌, ◌+◌, ◌-◌, ◌++◌, length, map, slice_range, IfOk, OnOk, MatchOption};
+ghost use Rattle.std.specs.Prelude.{◌≡◌, ◌≤◌, ◌<◌, ◌+◌, ◌-◌, ◌++◌, length, map, slice_range, Some, IfOk, OnOk, MatchOption};
 ghost use Rattle.std.specs.Option.{option_map};
 ghost use Rattle.dts_tree.specs.Outline.{list_of};
+ghost use Rattle.dts_tree.specs.TreeValues.{is_frame, is_number, lone_number, one_number};
 ghost use Rattle.dts_tree.specs.Value as held;
 
 use dts_lex::{Kind, Token, number_of};
@@ -41,6 +42,61 @@ fn is_less(text: &[u8], token: &Token) -> bool
     ensures { result ≡ held.is_less text.now token.now }
 {
     bytes_of(text, token) == b"<".as_slice()
+}
+
+#[tactic(auto, unfolding(crate::specs::Value::is_greater))]
+fn is_greater(text: &[u8], token: &Token) -> bool
+    ensures { result ≡ held.is_greater text.now token.now }
+{
+    bytes_of(text, token) == b">".as_slice()
+}
+
+/// Whether a token is a bracket of cells or a comma between parts.
+fn is_frame(text: &[u8], token: &Token) -> bool
+    ensures { result ≡ is_frame text.now token.now }
+{
+    is_less(text, token) || is_greater(text, token) || is_comma(text, token)
+}
+
+/// The number of a value whose cells, all parts together, are one number.
+pub(crate) fn one_number(text: &[u8], value: &[Token]) -> Option<u32>
+    ensures { result ≡ one_number text.now (Some value.now) }
+{
+    let mut found: Option<Token> = None;
+    let mut at = 0;
+    while at < value.len() {
+        let token = value[at];
+        if !is_frame(text, &token) {
+            if found.is_some() {
+                return None;
+            }
+            found = Some(token);
+        }
+        at += 1;
+    }
+    lone_number(text, found)
+}
+
+/// The number that the token is, where there is one.
+fn lone_number(text: &[u8], found: Option<Token>) -> Option<u32>
+    ensures { result ≡ lone_number text.now (list_of found) }
+{
+    match found {
+        Some(token) => {
+            if is_number(token.kind) {
+                Some(number_at(text, &token))
+            } else {
+                None
+            }
+        }
+        None => None,
+    }
+}
+
+fn is_number(kind: Kind) -> bool
+    ensures { result ≡ is_number kind }
+{
+    matches!(kind, Kind::Number)
 }
 
 fn is_text(kind: Kind) -> bool

@@ -1,10 +1,10 @@
-use Rattle.std.proofs.Common.{[], ◌∙◌, ap, length, nat_eq}
+use Rattle.std.proofs.Common.{arith, [], ◌∙◌, ap, length, nat_eq}
 use Rattle.std.proofs.lemmas.Result.{IfOk-from_err}
-use Rattle.dts_tree.proofs.ExitLemmas.{at_memory}
 use Rattle.dts_tree.specs.Settled.{values_of}
+use Rattle.dts_tree.proofs.PhandleLemmas.{get-empty}
 use Rattle.dts_tree.proofs.SettleLemmas.{settled-tree}
 use Rattle.dts_tree.proofs.TreeLookLemmas.{below_values}
-use Rattle.dts_tree.proofs.tree.Tree.of_reader.Goals as goal
+use Rattle.dts_tree.proofs.tree.Tree.unnoted.Goals as goal
 
 pub invariant_of-result : goal.invariant_of-result
 invariant_of-result c =
@@ -24,10 +24,12 @@ invariant_of-result c =
       values_below = rw (h.values, c.as_slice.ensures.value) (below_values (length reader.nodes) reader.settings.items [] tt c.requires.standing.settings);
       labels_below = c.requires.standing.labels;
       named = c.requires.named;
+      noted_inside = omega arith;
+      noted_found = λ n. get-empty c.new.result n c.new.ensures.empty;
     }
 
-pub returns-clause-tree : goal.returns-clause-tree
-returns-clause-tree c =
+pub returns : goal.returns
+returns c =
     let reader = c.args.reader in
     let layout = c.in_ok-layout.layout in
     let h = c.in_ok-layout.ensures in
@@ -37,5 +39,4 @@ returns-clause-tree c =
 
 pub returns-in_err-layout : goal.returns-in_err-layout
 returns-in_err-layout c =
-    let exit = c.from_residual.ensures in
-    record { tree = IfOk-from_err _ _ exit.0; fault = at_memory _ exit.1 }
+    IfOk-from_err _ _ c.from_residual.ensures.0
