@@ -14,21 +14,30 @@ use count::count;
 use ranges::ranges;
 use rows::rows;
 use std::alloc::Global;
+use std::process::ExitCode;
 use std::{env, io};
 
-fn main(rt: HostRuntime) -> io::Result<()> {
+fn main(rt: HostRuntime) -> io::Result<ExitCode> {
     match env::args(&rt)?.nth(1) {
         Some(word) => run(&rt, word.as_str()),
         None => run(&rt, ""),
     }
 }
 
-/// Runs what the word names over the standard input.
-fn run(rt: &(impl Input + Print + Eprint + Alloc<A = Global>), word: &str) -> io::Result<()> {
+/// Runs what the word names over the standard input. Another word is told on the standard error, and
+/// the status is 2.
+fn run(
+    rt: &(impl Input + Print + Eprint + Alloc<A = Global>),
+    word: &str,
+) -> io::Result<ExitCode> {
     match word {
-        "rows" => rows(rt),
-        "count" => count(rt),
-        "ranges" => ranges(rt),
-        _ => eprintln!(rt; "usage: part_runs rows|count|ranges"),
+        "rows" => rows(rt)?,
+        "count" => count(rt)?,
+        "ranges" => ranges(rt)?,
+        _ => {
+            eprintln!(rt; "usage: part_runs rows|count|ranges")?;
+            return Ok(ExitCode::from(2));
+        }
     }
+    Ok(ExitCode::SUCCESS)
 }

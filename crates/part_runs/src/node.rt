@@ -40,9 +40,8 @@ pub(crate) fn write_values(
     tree: &Tree,
     property: &[u8],
 ) -> Result<(), AllocError> {
-    if tree.count() == 0 {
-        return Ok(());
-    }
+    let nodes = tree.count();
+    prove!(nodes > 0);
     let properties = tree.property_count();
     let has = if tree.has(0, property) { "has " } else { "" };
     write!(line, "{properties} {has}")?;
