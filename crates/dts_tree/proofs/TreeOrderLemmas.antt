@@ -1,5 +1,6 @@
 -- How long the order of a tree is, and that each node stands behind its parent.
-use Rattle.std.proofs.Common.{◌≡◌, ℕ, zero, suc, ◌+◌, ◌-◌, ◌<◌, ◌≤◌, List, [], ◌∷◌, ◌++◌, Bool, true, false, not, cond, length, filter, get_or, nat_eq, nat_lt, refl, sym, ap, ◌∙◌, subst, arith, append_assoc}
+use Rattle.std.proofs.Common.{◌≡◌, inl, inr, ℕ, zero, suc, ◌+◌, ◌-◌, ◌<◌, ◌≤◌, List, [], ◌∷◌, ◌++◌, Bool, true, false, not, cond, length, filter, get_or, nat_eq, nat_lt, refl, sym, ap, ◌∙◌, subst, arith, append_assoc}
+use Rattle.std.specs.Prelude.{◌⊎◌}
 use Rattle.std.proofs.Math.Logic.{⊎_elim}
 use Rattle.std.specs.List.{AllByRecursion, range_with_len, flat_map, position_or_len}
 use Rattle.std.proofs.lemmas.Bool.{cases_eq, cases_lt, cases_Bool, cond-true, cond-false, eq-eqb, ne_eqb, eqb-true, lt-ltb, le-ltb}
@@ -186,3 +187,126 @@ module _ (parents : List ℕ) where
       let is : length parents ≡ suc (length parents - 1) = omega (arith, some) in
       let P : ℕ → Type 0 = λ n. 0 < i → i < length (below n parents 0) → position_or_len (nat_eq (get_or parents (get_or (below n parents 0) i 0) 0)) (below n parents 0) < i in
       subst P (sym is) (order-led-from (length parents - 1) i)
+
+-- ---- each node stands somewhere
+
+seen-head : (x : ℕ) (xs : List ℕ) → Seen x (x ∷ xs)
+seen-head x xs = rw (eq-eqb x x refl) (omega arith)
+
+seen-behind : (x y : ℕ) (xs : List ℕ) → Seen x xs → Seen x (y ∷ xs)
+seen-behind x y xs h =
+    elim (nat_eq x y) as (λ (b : Bool). cond (not b) (1 + position_or_len (nat_eq x) xs) 0 < length (y ∷ xs)) [
+      | true ↦ omega arith
+      | false ↦ omega (arith, h)
+    ]
+
+seen-cases : (x y : ℕ) (ys : List ℕ) → Seen x (y ∷ ys) → (x ≡ y) ⊎ Seen x ys
+seen-cases x y ys h =
+    ⊎_elim
+    (λ same. inl same)
+    (λ other. (let later : position_or_len (nat_eq x) (y ∷ ys) ≡ 1 + position_or_len (nat_eq x) ys = ap (λ b. cond (not b) (1 + position_or_len (nat_eq x) ys) 0) (ne_eqb x y other) in inr (omega (arith, h, later))))
+    (cases_eq x y)
+
+seen-right : (x : ℕ) (xs ys : List ℕ) → Seen x ys → Seen x (xs ++ ys)
+seen-right x [] ys h = h
+seen-right x (y ∷ xs) ys h = seen-behind x y (xs ++ ys) (seen-right x xs ys h)
+
+seen-split : (x : ℕ) (xs ys : List ℕ) → Seen x (xs ++ ys) → Seen x xs ⊎ Seen x ys
+seen-split x [] ys h = inr h
+seen-split x (y ∷ xs) ys h =
+    ⊎_elim
+    (λ same. inl (subst (λ (z : ℕ). Seen x (z ∷ xs)) same (seen-head x xs)))
+    (λ later. ⊎_elim (λ left. inl (seen-behind x y xs left)) (λ right. inr right) (seen-split x xs ys later))
+    (seen-cases x y (xs ++ ys) h)
+
+blocks-seen : (A : ℕ → List ℕ) (x c : ℕ) (cs : List ℕ) → Seen c cs → Seen x (A c) → Seen x (flat_map A cs)
+blocks-seen A x c [] there h = absurd (omega (arith, there))
+blocks-seen A x c (d ∷ cs) there h =
+    ⊎_elim
+    (λ same. seen-wider x (A d) (flat_map A cs) (subst (λ (e : ℕ). Seen x (A e)) same h))
+    (λ later. seen-right x (A d) (flat_map A cs) (blocks-seen A x c cs later h))
+    (seen-cases c d cs there)
+
+seen-blocks : (A : ℕ → List ℕ) (x : ℕ) (cs : List ℕ) → Seen x (flat_map A cs) → (c : ℕ) × Seen c cs × Seen x (A c)
+seen-blocks A x [] h = absurd (omega (arith, h))
+seen-blocks A x (c ∷ cs) h =
+    ⊎_elim
+    (λ here. (c, seen-head c cs, here))
+    (λ later. (let rest = seen-blocks A x cs later in (rest.0, seen-behind rest.0 c cs rest.1, rest.2)))
+    (seen-split x (A c) (flat_map A cs) h)
+
+seen-filter : (p : ℕ → Bool) (k m z : ℕ) → p z ≡ true → k ≤ z → z < k + m → Seen z (filter p (range_with_len k m))
+seen-filter p k zero z passes low high = absurd (omega (arith, low, high))
+seen-filter p k (suc m) z passes low high =
+    let xs : List ℕ = range_with_len (k + 1) m in
+    ⊎_elim
+    (λ here. subst (λ (ys : List ℕ). Seen z ys) (sym (filter-passes p k xs (ap p (sym here) ∙ passes))) (subst (λ (j : ℕ). Seen z (j ∷ filter p xs)) here (seen-head z (filter p xs))))
+    (λ other.
+    let rest = seen-filter p (k + 1) m z passes (omega (arith, low, other)) (omega (arith, high)) in
+    ⊎_elim
+    (λ first. subst (λ (ys : List ℕ). Seen z ys) (sym (filter-passes p k xs first)) (seen-behind z k (filter p xs) rest))
+    (λ none. subst (λ (ys : List ℕ). Seen z ys) (sym (filter-fails p k xs none)) rest)
+    (cases_Bool (p k)))
+    (cases_eq z k)
+
+filter-seen : (p : ℕ → Bool) (k m z : ℕ) → Seen z (filter p (range_with_len k m)) → (p z ≡ true) × (k ≤ z) × (z < k + m)
+filter-seen p k zero z h = absurd (omega (arith, h))
+filter-seen p k (suc m) z h =
+    let xs : List ℕ = range_with_len (k + 1) m in
+    let later : Seen z (filter p xs) → (p z ≡ true) × (k ≤ z) × (z < k + suc m) = λ rest. (let r = filter-seen p (k + 1) m z rest in (r.0, omega (arith, r.1), omega (arith, r.2))) in
+    ⊎_elim
+    (λ first. ⊎_elim
+    (λ here. (ap p here ∙ first, omega (arith, here), omega (arith, here)))
+    later
+    (seen-cases z k (filter p xs) (subst (λ (ys : List ℕ). Seen z ys) (filter-passes p k xs first) h)))
+    (λ none. later (subst (λ (ys : List ℕ). Seen z ys) (filter-fails p k xs none) h))
+    (cases_Bool (p k))
+
+module _ (parents : List ℕ) (earlier : IsEarlier parents) where
+  below-head : (f z : ℕ) → Seen z (below f parents z)
+  unfolding below
+  below-head zero z = seen-head z []
+  below-head (suc f) z = seen-head z (flat_map (below f parents) (children_from parents z 1))
+
+  child-seen : (x z : ℕ) → get_or parents z 0 ≡ x → 1 ≤ z → z < length parents → Seen z (children_from parents x 1)
+  unfolding children_from
+  child-seen x z is low high = seen-filter (λ j. nat_eq (get_or parents j 0) x) 1 (length parents - 1) z (eq-eqb (get_or parents z 0) x is) low (omega (arith, low, high))
+
+  seen-child : (x z : ℕ) → Seen z (children_from parents x 1) → x < z
+  unfolding children_from
+  seen-child x z h =
+      let r = filter-seen (λ j. nat_eq (get_or parents j 0) x) 1 (length parents - 1) z h in
+      omega (arith, eqb-true (get_or parents z 0) x r.0, earlier z r.1 (omega (arith, r.1, r.2)))
+
+  -- where a node stands, its children stand
+  deeper : (f y x z : ℕ) → length parents ≤ f + (y + 1) → Seen x (below f parents y) → get_or parents z 0 ≡ x → 1 ≤ z → z < length parents → Seen z (below f parents y)
+  unfolding below
+  deeper zero y x z few h is low high =
+      ⊎_elim
+      (λ same. absurd (omega (arith, same, is, few, earlier z low high, high)))
+      (λ none. absurd (omega (arith, none)))
+      (seen-cases x y [] h)
+  deeper (suc f) y x z few h is low high =
+      let cs = children_from parents y 1 in
+      seen-behind z y (flat_map (below f parents) cs)
+      (⊎_elim
+      (λ same. blocks-seen (below f parents) z z cs (child-seen y z (is ∙ same) low high) (below-head f z))
+      (λ later.
+      let block_ = seen-blocks (below f parents) x cs later in
+      let c = block_.0 in
+      blocks-seen (below f parents) z c cs block_.1 (deeper f c x z (omega (arith, few, seen-child y c block_.1)) block_.2 is low high))
+      (seen-cases x y (flat_map (below f parents) cs) h))
+
+  seen-below : (m k : ℕ) → k < m → k < length parents → Seen k (in_tree_order parents)
+  seen-below zero k less inside = absurd (omega (arith, less))
+  seen-below (suc m) k less inside =
+      ⊎_elim
+      (λ root. subst (λ (j : ℕ). Seen j (in_tree_order parents)) (sym root) (below-head (length parents) 0))
+      (λ child.
+      let before = earlier k (omega (arith, child)) inside in
+      deeper (length parents) 0 (get_or parents k 0) k (omega arith) (seen-below m (get_or parents k 0) (omega (arith, before, less)) (omega (arith, before, inside))) refl (omega (arith, child)) inside)
+      (cases_eq k 0)
+
+  -- each node stands in the order
+  pub all-seen : (k : ℕ) → k < length parents → Seen k (in_tree_order parents)
+  all-seen k inside = seen-below (suc k) k (omega arith) inside
