@@ -10,7 +10,7 @@ use Rattle.dts_tree.specs.Order.{in_tree_order}
 use Rattle.dts_tree.specs.Shape.{ParentsOf}
 use Rattle.dts_tree.specs.Settled.{IsLed}
 use Rattle.dts_tree.proofs.TreeLemmas.{below-at}
-use Rattle.dts_tree.proofs.TreeOrderLemmas.{order-first, order-led, order-length}
+use Rattle.dts_tree.proofs.TreeOrderLemmas.{order-first, order-led, order-length, all-seen}
 
 behind : List ℕ → List ℕ
 behind [] = []
@@ -47,3 +47,8 @@ long-nodes nodes parents order h some is =
     ap length is
     ∙ order-length parents (λ j low in_j. h.earlier j low (omega (arith, in_j, h.long))) (omega (arith, h.long, some))
     ∙ h.long
+
+pub nodes-seen : (nodes : List (List ℕ)) (parents order : List ℕ) → ParentsOf nodes parents → order ≡ in_tree_order parents → (k : ℕ) → k < length nodes → position_or_len (nat_eq k) order < length order
+nodes-seen nodes parents order h is k inside =
+    subst (λ (xs : List ℕ). position_or_len (nat_eq k) xs < length xs) (sym is)
+    (all-seen parents (λ j low in_j. h.earlier j low (omega (arith, in_j, h.long))) k (omega (arith, inside, h.long)))

@@ -13,6 +13,7 @@ pub mod ShapeLemmas
 pub mod SayingLemmas
 pub mod TreeOrderLemmas
 pub mod TreeLemmas
+pub mod KnownLemmas
 pub mod PhandleLemmas
 pub mod LedLemmas
 pub mod TreeLookLemmas

@@ -1,5 +1,6 @@
 pub mod Firsts
 pub mod Grammar
+pub mod Known
 pub mod Names
 pub mod Numbered
 pub mod Order

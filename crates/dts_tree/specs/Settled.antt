@@ -45,6 +45,7 @@ pub record IsLayout (nodes : List (List ℕ)) (settings : List (Setting ℕ ℕ)
   pub order : map (path_at nodes) layout.order ≡ tree_order_of nat_eq nodes
   pub inside : AllBelow (length nodes) layout.order
   pub led : IsLed nodes layout.order
+  pub seen : (k : ℕ) → k < length nodes → position_or_len (nat_eq k) layout.order < length layout.order
   pub long_ranks : length layout.ranks ≡ length nodes
   pub ranked : (k : ℕ) → k < length nodes → slice_index layout.ranks k ≡ position_or_len (nat_eq k) layout.order
   pub long_places : length layout.places ≡ length nodes

@@ -1,6 +1,7 @@
 -- What callers see of a tree.
 use Rattle.std.specs.Prelude.{◌≡◌, ℕ, ◌<◌, ◌≤◌, List, [], ◌∷◌, Option, Some, None, length, map, nat_eq, ◌^◌, slice_index, slice_index_or, slice_range}
-use Rattle.std.specs.List.{position_or_len}
+use Rattle.std.specs.List.{AllByRecursion, position_or_len}
+use Rattle.dts_tree.specs.Known.{AreLabelled}
 use Rattle.std.specs.Map.{lookup}
 use Rattle.std.specs.Str.{bytes_eq}
 use Rattle.std.specs.Cmp.Lexicographic.{pointwise}
@@ -62,6 +63,7 @@ pub record Settled (text : List ℕ) (tokens : List Token) (nodes : List (List �
   pub some : 0 < length order
   pub inside : AllBelow (length nodes) order
   pub led : IsLed nodes order
+  pub seen : (k : ℕ) → k < length nodes → position_or_len (nat_eq k) order < length order
   pub long_ranks : length ranks ≡ length nodes
   pub ranked : (k : ℕ) → k < length nodes → slice_index ranks k ≡ position_or_len (nat_eq k) order
   pub long_places : length places ≡ length nodes
@@ -71,6 +73,7 @@ pub record Settled (text : List ℕ) (tokens : List Token) (nodes : List (List �
   pub values_below : AllBelow (length nodes) (map (λ v. v.0.0) values)
   pub labels_below : AllBelow (length nodes) (map (λ l. l.1) labels)
   pub named : AreNamed text tokens nodes
+  pub labelled : AllByRecursion (λ v. AreLabelled text tokens labels v.1) values
   pub noted_inside : noted ≤ length order
   pub noted_found : (n : ℕ) → find_phandle n ≡ first_noted n
 

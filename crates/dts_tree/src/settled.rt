@@ -57,6 +57,7 @@ fn order_of(alloc: Global, nodes: &Nodes) -> Result<Vec<u32>, AllocError>
     ensures inside { IfOk result (λ order. AllBelow (length nodes.now) order.items) }
     ensures long { IfOk result (λ order. length order.items ≡ length nodes.now) }
     ensures led { IfOk result (λ order. IsLed nodes.now order.items) }
+    ensures seen { IfOk result (λ order. (k : ℕ) → k < length nodes.now → position_or_len (nat_eq k) order.items < length order.items) }
 {
     let _count = nodes.len();
     let parents = parents_of(alloc, nodes)?;

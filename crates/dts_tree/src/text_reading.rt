@@ -2,6 +2,7 @@ ghost use Rattle.std.specs.Prelude.{◌≡◌, ◌≢◌, ◌≤◌, ◌<◌, �
 ghost use Rattle.std.specs.List.{AllByRecursion};
 ghost use Rattle.dts_lex.specs.Lex.{SpansRise};
 ghost use Rattle.dts_tree.specs.Firsts.{found_in};
+ghost use Rattle.dts_tree.specs.Known.{SetsLabelled};
 ghost use Rattle.dts_tree.specs.Names.{first_with, known_before, number_in};
 ghost use Rattle.dts_tree.specs.Reader.{reading, Standing};
 ghost use Rattle.dts_tree.specs.Reading.{nothing_read, walked};
@@ -38,6 +39,7 @@ pub(crate) fn reading_of(
     ensures standing { IfOk result (λ r. Standing r.reader) }
     ensures few { IfOk result (λ r. length r.reader.nodes < 2 ^ 32) }
     ensures named { IfOk result (λ r. AreNamed text.now tokens.now r.reader.nodes) }
+    ensures labelled { IfOk result (λ r. AllByRecursion (SetsLabelled text.now tokens.now r.reader.labels) r.reader.settings.items) }
     ensures firsts { IfOk result (λ r. (q : List ℕ)
         → found_in r.names.firsts q ≡ known_before (first_with text.now tokens.now q) (length tokens.now)) }
     ensures fault { IfErr result (λ fault. fault ≢ TreeFault.Memory → IsOutcome text.now tokens.now (Err fault)) }
@@ -61,6 +63,7 @@ fn reader_of(
     ensures standing { IfOk result (λ reader. Standing reader) }
     ensures few { IfOk result (λ reader. length reader.nodes < 2 ^ 32) }
     ensures named { IfOk result (λ reader. AreNamed text.now tokens.now reader.nodes) }
+    ensures labelled { IfOk result (λ reader. AllByRecursion (SetsLabelled text.now tokens.now reader.labels) reader.settings.items) }
     ensures fault { IfErr result (λ fault. fault ≢ TreeFault.Memory → IsOutcome text.now tokens.now (Err fault)) }
 {
     let outline = outline_of(alloc, text, tokens)?;

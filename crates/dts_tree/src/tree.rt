@@ -69,6 +69,8 @@ impl Model for Tree {
 }
 
 impl Tree {
+    ghost use Rattle.std.specs.List.{AllByRecursion};
+    ghost use Rattle.dts_tree.specs.Known.{SetsLabelled};
     ghost use Rattle.dts_tree.specs.Reader.{Standing};
     ghost use Rattle.dts_tree.specs.TextReading.{reading_in};
     ghost use Rattle.dts_tree.specs.Tree.{tree_of, AreNamed};
@@ -86,6 +88,7 @@ impl Tree {
         requires firsts { (q : List ℕ) → found_in firsts q ≡ known_before (first_with text tokens q) (length tokens) }
         requires named { AreNamed text tokens reader.nodes }
         requires few { length reader.nodes < 2 ^ 32 }
+        requires labelled { AllByRecursion (SetsLabelled text tokens reader.labels) reader.settings.items }
         ensures tree { IfOk result (λ tree. tree ≡ tree_of text tokens (reading_in text tokens reader)) }
         ensures fault { IfErr result (λ fault. fault ≡ TreeFault.Memory) }
     {
@@ -107,6 +110,7 @@ impl Tree {
         requires firsts { (q : List ℕ) → found_in firsts q ≡ known_before (first_with text tokens q) (length tokens) }
         requires named { AreNamed text tokens reader.nodes }
         requires few { length reader.nodes < 2 ^ 32 }
+        requires labelled { AllByRecursion (SetsLabelled text tokens reader.labels) reader.settings.items }
         ensures { IfOk result (λ tree. tree ≡ tree_of text tokens (reading_in text tokens reader)) }
     {
         reader.nodes.apart();
@@ -189,7 +193,7 @@ impl Tree {
 impl Tree {
     ghost use Rattle.std.specs.Prelude.{None, Some, MatchOption};
     ghost use Rattle.dts_tree.specs.Tree.{value_in};
-    ghost use Rattle.dts_tree.specs.TreeValues.{node_of_label};
+    ghost use Rattle.dts_tree.specs.TreeValues.{NamesNodes, node_of_label};
 
     pub(crate) fn text(&self) -> &[u8]
         ensures { result.now ≡ self.now.text }
@@ -200,7 +204,8 @@ impl Tree {
     /// The tokens of a property's value, where the node has the property.
     pub(crate) fn value(&self, node: u32, prop: &[u8]) -> Option<&[Token]>
         requires { node < length self.now.nodes }
-        ensures { MatchOption result (value_in self.now node prop.now ≡ None) (λ v. value_in self.now node prop.now ≡ Some v.now) }
+        ensures value { MatchOption result (value_in self.now node prop.now ≡ None) (λ v. value_in self.now node prop.now ≡ Some v.now) }
+        ensures nodes { IfSome result (λ v. NamesNodes self.now v.now) }
     {
         self.nodes.apart();
         let number = self.order.as_slice()[node as usize];

@@ -1,5 +1,7 @@
-ghost use Rattle.std.specs.Prelude.{◌≡◌, ◌<◌, length, map, is_some, IfOk};
+ghost use Rattle.std.specs.Prelude.{◌≡◌, ◌<◌, length, map, is_some, IfOk, IfSome};
 ghost use Rattle.std.specs.Option.{option_map};
+ghost use Rattle.std.specs.List.{AllByRecursion};
+ghost use Rattle.dts_tree.specs.Known.{IsCellBelow};
 ghost use Rattle.dts_tree.specs.Tree.{value_in};
 ghost use Rattle.dts_tree.specs.TreeValues.{AreCells, AreStrings, cell_in};
 
@@ -19,7 +21,7 @@ impl Tree {
     }
 
     /// The cells of a property, or None where the node doesn't have it or it has a part that isn't
-    /// cells.
+    /// cells. Each node among them is one of the tree.
     pub fn cells(
         &self,
         alloc: Global,
@@ -27,7 +29,8 @@ impl Tree {
         prop: &[u8],
     ) -> Result<Option<Vec<Cell>>, AllocError>
         requires { node < length self.now.nodes }
-        ensures { IfOk result (λ r. AreCells self.now (value_in self.now node prop.now) (option_map (λ v. v.items) r)) }
+        ensures cells { IfOk result (λ r. AreCells self.now (value_in self.now node prop.now) (option_map (λ v. v.items) r)) }
+        ensures below { IfOk result (λ r. IfSome r (λ cells. AllByRecursion (IsCellBelow (length self.now.nodes)) cells.items)) }
     {
         let Some(value) = self.value(node, prop) else {
             return Ok(None);

@@ -15,6 +15,7 @@ of_reader-requires c =
       firsts = c.in_ok-read.ensures.firsts;
       named = c.in_ok-read.ensures.named;
       few = c.in_ok-read.ensures.few;
+      labelled = c.in_ok-read.ensures.labelled;
     })
 
 pub returns-clause-tree : goal.returns-clause-tree

@@ -5,7 +5,7 @@ use Rattle.dts_tree.specs.Reader.{AllBelow, path_at}
 use Rattle.std.specs.Global.{Vec}
 use Rattle.dts_tree.specs.Order.{in_tree_order}
 use Rattle.dts_tree.proofs.ShapeLemmas.{order-paths}
-use Rattle.dts_tree.proofs.LedLemmas.{led-nodes, long-nodes}
+use Rattle.dts_tree.proofs.LedLemmas.{led-nodes, long-nodes, nodes-seen}
 use Rattle.dts_tree.proofs.settled.order_of.Goals as goal
 
 pub returns-clause-order : goal.returns-clause-order
@@ -28,7 +28,11 @@ pub returns-clause-led : goal.returns-clause-led
 returns-clause-led c =
     IfOk-weaker c.tree_order.result _ _ (λ (order : Vec ℕ) (h : (order.items ≡ in_tree_order c.as_slice.result.now) × AllBelow (length c.as_slice.result.now) order.items). led-nodes c.args.nodes.now c.in_ok-parents.parents.items order.items c.in_ok-parents.ensures c.len-count.ensures.apart c.requires.some (rw (← (ap length c.as_slice.ensures.value ∙ c.in_ok-parents.ensures.long)) h.1) (h.0 ∙ ap in_tree_order c.as_slice.ensures.value)) (IfOk-both c.tree_order.result _ _ c.tree_order.ensures.order c.tree_order.ensures.inside)
 
+pub returns-clause-seen : goal.returns-clause-seen
+returns-clause-seen c =
+    IfOk-weaker c.tree_order.result _ _ (λ order h. nodes-seen c.args.nodes.now c.in_ok-parents.parents.items order.items c.in_ok-parents.ensures (h ∙ ap in_tree_order c.as_slice.ensures.value)) c.tree_order.ensures.order
+
 pub returns-in_err-parents : goal.returns-in_err-parents
 returns-in_err-parents c =
     let exit = c.from_residual.ensures in
-    record { order = IfOk-from_err _ _ exit.0; inside = IfOk-from_err _ _ exit.0; long = IfOk-from_err _ _ exit.0; led = IfOk-from_err _ _ exit.0 }
+    record { order = IfOk-from_err _ _ exit.0; inside = IfOk-from_err _ _ exit.0; long = IfOk-from_err _ _ exit.0; led = IfOk-from_err _ _ exit.0; seen = IfOk-from_err _ _ exit.0 }

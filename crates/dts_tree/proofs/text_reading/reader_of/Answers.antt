@@ -7,6 +7,7 @@ use Rattle.dts_tree.specs.Reading.{nothing_read, walked}
 use Rattle.dts_tree.specs.Saying.{said_with}
 use Rattle.dts_tree.proofs.ExitLemmas.{passed_on, unless_memory}
 use Rattle.dts_tree.proofs.OutlineLemmas.{SpansRise-count}
+use Rattle.dts_tree.proofs.KnownLemmas.{settings_labelled}
 use Rattle.dts_tree.proofs.TextReadingLemmas.{outcome_step, outcome_behind, nodes_named}
 use Rattle.dts_tree.proofs.text_reading.reader_of.Goals as goal
 
@@ -29,6 +30,7 @@ returns-in_err-outline c = record {
   standing = IfOk-from_err _ _ c.from_residual.ensures.0;
   few = IfOk-from_err _ _ c.from_residual.ensures.0;
   named = IfOk-from_err _ _ c.from_residual.ensures.0;
+  labelled = IfOk-from_err _ _ c.from_residual.ensures.0;
   fault = unless_memory _ _ c.from_residual.ensures.1;
 }
 
@@ -41,6 +43,7 @@ returns-in_err-reader c =
       standing = IfOk-from_err _ _ exit.ensures.0;
       few = IfOk-from_err _ _ exit.ensures.0;
       named = IfOk-from_err _ _ exit.ensures.0;
+      labelled = IfOk-from_err _ _ exit.ensures.0;
       fault = passed_on _ _ c.in_err-reader.field-0.0 exit.ensures.1 (λ other. outcome_step c.args.text.now c.args.tokens.now (λ i. omega (arith, c.type_inv.text i)) c.in_ok-outline.outline.steps c.in_ok-outline.ensures.within c.in_ok-outline.outline.fault c.in_err-reader.field-0.0 c.in_ok-outline.ensures.outline
           (ap (λ steps. walked nat_eq nothing_read (said_of steps)) (sym c.as_slice.ensures) ∙ c.in_err-reader.ensures.fault other c.args.text.now c.requires.numbers));
     }
@@ -53,6 +56,7 @@ returns-in-Some c =
       standing = tt;
       few = tt;
       named = tt;
+      labelled = tt;
       fault = λ other. outcome_behind c.args.text.now c.args.tokens.now (λ i. omega (arith, c.type_inv.text i)) c.in_ok-outline.outline.steps c.in_ok-outline.ensures.within c.in_ok-reader.reader
           (ap (λ steps. walked nat_eq nothing_read (said_of steps)) (sym c.as_slice.ensures) ∙ c.in_ok-reader.ensures.ok c.args.text.now c.requires.numbers)
           c.in_ok-outline.outline.fault (Some c.in-Some.fault) c.in_ok-outline.ensures.outline (c.in-Some.ensures c.args.text.now (λ i. omega (arith, c.type_inv.text i)) c.requires.numbers);
@@ -67,6 +71,7 @@ returns c =
           c.in_ok-outline.outline.fault None c.in_ok-outline.ensures.outline (c.in-None.ensures c.args.text.now (λ i. omega (arith, c.type_inv.text i)) c.requires.numbers);
       standing = c.in_ok-reader.ensures.standing;
       few = omega (arith, c.in_ok-reader.ensures.few, ap length c.as_slice.ensures, c.in_ok-outline.ensures.few, SpansRise-count 0 (length c.args.text.now) c.args.tokens.now c.requires.spans, c.requires.short);
+      labelled = settings_labelled c.args.text.now c.args.tokens.now (λ i. omega (arith, c.type_inv.text i)) c.in_ok-outline.outline.steps c.in_ok-reader.reader c.in_ok-outline.ensures.within read c.in_ok-outline.outline.fault (sym (c.in-None.ensures c.args.text.now (λ i. omega (arith, c.type_inv.text i)) c.requires.numbers));
       named = nodes_named c.args.text.now c.args.tokens.now c.in_ok-outline.outline.steps c.in_ok-reader.reader c.in_ok-outline.ensures.within read;
       fault = tt;
     }

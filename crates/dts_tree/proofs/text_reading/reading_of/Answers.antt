@@ -20,6 +20,7 @@ returns-in_err-names c = record {
   standing = IfOk-from_err _ _ c.from_residual.ensures.0;
   few = IfOk-from_err _ _ c.from_residual.ensures.0;
   named = IfOk-from_err _ _ c.from_residual.ensures.0;
+  labelled = IfOk-from_err _ _ c.from_residual.ensures.0;
   firsts = IfOk-from_err _ _ c.from_residual.ensures.0;
   fault = unless_memory _ _ c.from_residual.ensures.1;
 }
@@ -32,6 +33,7 @@ returns-in_err-reader c =
       standing = IfOk-from_err _ _ exit.ensures.0;
       few = IfOk-from_err _ _ exit.ensures.0;
       named = IfOk-from_err _ _ exit.ensures.0;
+      labelled = IfOk-from_err _ _ exit.ensures.0;
       firsts = IfOk-from_err _ _ exit.ensures.0;
       fault = passed_on _ _ c.in_err-reader.field-0.0 exit.ensures.1 c.in_err-reader.ensures.fault;
     }
@@ -42,6 +44,7 @@ returns c = record {
   standing = c.in_ok-reader.ensures.standing;
   few = c.in_ok-reader.ensures.few;
   named = c.in_ok-reader.ensures.named;
+  labelled = c.in_ok-reader.ensures.labelled;
   firsts = c.in_ok-names.ensures.firsts;
   fault = tt;
 }

@@ -26,6 +26,7 @@ invariant_of-self-2 c =
       some = h.some;
       inside = h.inside;
       led = h.led;
+      seen = h.seen;
       long_ranks = h.long_ranks;
       ranked = h.ranked;
       long_places = h.long_places;
@@ -35,6 +36,7 @@ invariant_of-self-2 c =
       values_below = h.values_below;
       labels_below = h.labels_below;
       named = h.named;
+      labelled = h.labelled;
       noted_inside = omega (arith, at, count, c.requires);
       noted_found = λ n.
           c.in_ok-note.ensures.ok n

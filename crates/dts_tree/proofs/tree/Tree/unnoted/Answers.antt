@@ -1,6 +1,7 @@
 use Rattle.std.proofs.Common.{arith, [], ◌∙◌, ap, length, nat_eq}
 use Rattle.std.proofs.lemmas.Result.{IfOk-from_err}
 use Rattle.dts_tree.specs.Settled.{values_of}
+use Rattle.dts_tree.proofs.KnownLemmas.{values_labelled}
 use Rattle.dts_tree.proofs.PhandleLemmas.{get-empty}
 use Rattle.dts_tree.proofs.SettleLemmas.{settled-tree}
 use Rattle.dts_tree.proofs.TreeLookLemmas.{below_values}
@@ -14,6 +15,7 @@ invariant_of-result c =
       few = h.few;
       some = h.some;
       led = h.led;
+      seen = h.seen;
       inside = h.inside;
       long_ranks = h.long_ranks;
       ranked = h.ranked;
@@ -24,6 +26,7 @@ invariant_of-result c =
       values_below = rw (h.values, c.as_slice.ensures.value) (below_values (length reader.nodes) reader.settings.items [] tt c.requires.standing.settings);
       labels_below = c.requires.standing.labels;
       named = c.requires.named;
+      labelled = rw (h.values, c.as_slice.ensures.value) (values_labelled c.args.text c.args.tokens reader.labels [] reader.settings.items tt c.requires.labelled);
       noted_inside = omega arith;
       noted_found = λ n. get-empty c.new.result n c.new.ensures.empty;
     }
