@@ -1,12 +1,11 @@
 -- References in values name labels.
-use Rattle.std.proofs.Common.{◌≡◌, ℕ, zero, suc, ◌+◌, ◌-◌, ◌<◌, ◌≤◌, List, [], ◌∷◌, ◌++◌, Bool, true, false, not, ◌&&◌, cond, Option, Some, None, Result, Ok, Err, length, map, fold, get_or, nat_eq, refl, sym, ap, ◌∙◌, subst, arith, drop}
+use Rattle.std.proofs.Common.{◌≡◌, ℕ, zero, suc, ◌+◌, ◌-◌, ◌<◌, List, [], ◌∷◌, ◌++◌, Bool, true, false, not, ◌&&◌, cond, Option, Some, None, Result, Ok, Err, length, map, fold, get_or, nat_eq, refl, sym, ap, ◌∙◌, subst, arith, drop}
 use Rattle.std.specs.Prelude.{is_some, slice_range, IfOk, nat_le}
 use Rattle.std.specs.List.{cons_option}
 use Rattle.dts_tree.specs.declared.value.ValueCell.{ValueCell}
 use Rattle.std.specs.Option.{option_map}
 use Rattle.std.specs.List.{AllByRecursion, find, flat_map, filter_map, position_or_len}
 use Rattle.std.specs.Map.{lookup}
-use Rattle.std.specs.Str.{bytes_eq}
 use Rattle.std.proofs.Math.Logic.{⊎_elim}
 use Rattle.std.proofs.lemmas.Bool.{cases_Bool, lt-ltb, cond-true}
 use Rattle.std.proofs.lemmas.List.{length-take, length-drop, get_or-take, get_or-drop}
@@ -33,7 +32,6 @@ use Rattle.dts_tree.specs.Saying.{said_with, value_of, is_unknown, unknown_ref}
 use Rattle.dts_tree.specs.Settled.{with_value, same_property}
 use Rattle.dts_tree.specs.TextReading.{fault_behind, names_label, reading_in}
 use Rattle.dts_tree.specs.Within.{IsStepWithin}
-use Rattle.dts_tree.specs.declared.cell.Cell.{Cell}
 use Rattle.dts_tree.specs.Names.{blank, name_of, first_with, known_before}
 use Rattle.dts_tree.specs.Known.{IsCellBelow}
 use Rattle.dts_tree.specs.Reader.{AllBelow}

@@ -90,11 +90,7 @@ impl Tree {
 }
 
 /// The node has the number, where it has one, unless an earlier one has it.
-fn note(
-    phandles: &mut BTreeMap<u32, u32>,
-    number: Option<u32>,
-    node: u32,
-) -> Result<(), AllocError>
+fn note(phandles: &mut BTreeMap<u32, u32>, number: Option<u32>, node: u32) -> Result<(), AllocError>
     ensures ok { OnOk result ((n : ℕ) → get nat_cmp phandles.new n ≡ or_else (get nat_cmp phandles.old n) (if option_eq nat_eq number (Some n) then Some node else None)) }
     ensures err { OnErr result ((n : ℕ) → get nat_cmp phandles.new n ≡ get nat_cmp phandles.old n) }
 {

@@ -1,7 +1,6 @@
 use Rattle.std.proofs.Common.{◌+◌, ◌∙◌, ap, sym, arith, length, drop, get_or, nat_eq}
 use Rattle.std.proofs.lemmas.List.{drop_more, drop_all}
-use Rattle.std.proofs.lemmas.Result.{err_from_is_err_and, IfOk-from_err}
-use Rattle.dts_tree.proofs.ExitLemmas.{unless_memory}
+use Rattle.std.proofs.lemmas.Result.{err_from_is_err_and}
 use Rattle.dts_tree.specs.declared.said.Said.TheVariants.{Label}
 use Rattle.dts_tree.specs.Reading.{walked}
 use Rattle.dts_tree.specs.Reader.{reading}

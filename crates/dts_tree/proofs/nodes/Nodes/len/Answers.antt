@@ -1,13 +1,9 @@
-use Rattle.std.proofs.Common.{◌≡◌, ◌<◌, ◌-◌, ◌+◌, ◌∙◌, ◌++◌, ◌∷◌, List, ℕ, [], Some, None, length, subst, nat_eq, get_or, ap, sym, refl, arith}
-use Rattle.std.specs.Prelude.{slice_get}
+use Rattle.std.proofs.Common.{◌≡◌, ◌<◌, List, ℕ, [], length, subst, nat_eq, get_or, ap, arith}
 use Rattle.std.specs.Cmp.Lexicographic.{pointwise}
-use Rattle.std.proofs.lemmas.Result.{IfOk-from_err}
 use Rattle.std.proofs.lemmas.List.{length-map}
-use Rattle.ordered_map.specs.Entries.{place_of}
 use Rattle.dts_tree.specs.Path.{paths_of}
-use Rattle.dts_tree.specs.Numbered.{same_key, keys_of, depths_of}
-use Rattle.dts_tree.proofs.ExitLemmas.{at_exit}
-use Rattle.dts_tree.proofs.NumberedLemmas.{path_eq-numbers, numbered_root, depth-child, key-child, numbered-child, child_known, child_new, nowhere, place-position, paths_of-push}
+use Rattle.dts_tree.specs.Numbered.{keys_of}
+use Rattle.dts_tree.proofs.NumberedLemmas.{path_eq-numbers}
 use Rattle.dts_tree.proofs.nodes.Nodes.len.Goals as goal
 
 pub returns-clause-len : goal.returns-clause-len

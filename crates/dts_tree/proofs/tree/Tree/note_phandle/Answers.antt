@@ -1,4 +1,4 @@
-use Rattle.std.proofs.Common.{◌≡◌, ◌<◌, ◌+◌, ◌∙◌, ℕ, [], cond, Option, Some, None, length, get_or, nat_eq, ap, sym, arith}
+use Rattle.std.proofs.Common.{◌≡◌, ◌+◌, ◌∙◌, ℕ, [], cond, Option, Some, None, get_or, nat_eq, ap, sym, arith}
 use Rattle.std.specs.Option.{option_eq}
 use Rattle.dts_tree.specs.Names.{or_else}
 use Rattle.dts_tree.specs.Phandles.{first_of_noted}
