@@ -3,6 +3,7 @@
 
 mod failed;
 mod lab;
+pub mod laws;
 mod mem_lab;
 mod mem_sink;
 mod mem_source;

@@ -1,7 +1,7 @@
 ghost use Rattle.std.specs.Prelude.{◌≡◌, ◌≢◌, ℕ, ◌+◌, ◌<◌, ◌≤◌, [], IfOk, length, All, slice_index, slice_index_or, slice_set};
 ghost use Rattle.reg_outside.specs.Count.{raised};
 ghost use Rattle.reg_outside.specs.MemLab.{faults_under, list_under, room_under};
-ghost use Rattle.reg_outside.specs.MemWire.{new_wire};
+ghost use Rattle.reg_outside.specs.MemWire.{new_wire, AcceptsNext};
 
 use crate::lab::Lab;
 use crate::mem_wire::MemWire;
@@ -66,16 +66,19 @@ impl MemLab {
 impl Lab for MemLab {
     type W = MemWire;
 
-    ghost use Rattle.std.specs.Prelude.{Some};
+    ghost use Rattle.std.specs.Prelude.{◌≤◌, Some};
 
     ghost faults = { faults_under };
 
     ghost list = { λ lab n. Some (list_under lab n) };
 
+    ghost gives_room = { λ lab number n. n ≤ room_under lab number };
+
     /// The wire of this number, if it was not handed out yet; else one without room.
     fn wire(&mut self, worker: u16) -> MemWire
         ensures given { result ≡ new_wire (room_under self.old worker) [] }
         ensures taken { self.new ≡ record self.old { rooms = slice_set self.old.rooms worker 0 } }
+        ensures room { (n : ℕ) → n ≤ room_under self.old worker → AcceptsNext result n }
     {
         let at = usize::from(worker);
         let without_room = MemWire::without_room(self.alloc);

@@ -20,8 +20,12 @@ pub struct MemSink {
 impl Model for MemSink {
     ghost use Rattle.std.specs.Prelude.{◌≤◌, length, vec_capacity};
     ghost use Rattle.reg_outside.specs.MemSink.{SinkState};
+    ghost use Rattle.std.specs.Coded.{codes};
+    ghost use Rattle.reg_outside.specs.Plan.{plan_code};
 
     ghost Value = { SinkState };
+
+    ghost coded = { Prim.hlevel (codes, plan_code) };
 
     ghost view = { λ s. record { bytes = s.bytes.items; room = s.room; writes = s.writes; faults = s.faults } };
 
@@ -52,10 +56,13 @@ impl MemSink {
 
 impl Sink for MemSink {
     ghost use Rattle.std.specs.Prelude.{Some};
+    ghost use Rattle.reg_outside.specs.MemSink.{TakesNext};
 
     ghost written = { λ s. Some s.bytes };
 
     ghost faults = { λ s. s.faults };
+
+    ghost takes_next = { TakesNext };
 
     /// As many bytes of the piece as fit; where none fit it fails.
     fn write(&mut self, piece: &[u8]) -> Result<usize, Failed>

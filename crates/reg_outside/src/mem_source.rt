@@ -19,8 +19,12 @@ pub struct MemSource {
 impl Model for MemSource {
     ghost use Rattle.std.specs.Prelude.{◌≤◌, drop, length};
     ghost use Rattle.reg_outside.specs.MemSource.{SourceState};
+    ghost use Rattle.std.specs.Coded.{codes};
+    ghost use Rattle.reg_outside.specs.Plan.{plan_code};
 
     ghost Value = { SourceState };
+
+    ghost coded = { Prim.hlevel (codes, plan_code) };
 
     ghost view = { λ s. record { left = drop s.taken s.bytes.items; reads = s.reads; faults = s.faults } };
 
@@ -43,10 +47,13 @@ impl MemSource {
 
 impl Source for MemSource {
     ghost use Rattle.std.specs.Prelude.{Some};
+    ghost use Rattle.reg_outside.specs.Plan.{RefusesNone};
 
     ghost left = { λ s. Some s.left };
 
     ghost faults = { λ s. s.faults };
+
+    ghost never_fails = { λ s. RefusesNone s.reads };
 
     /// As many bytes as are left and as `buf` has room for.
     fn read(&mut self, buf: &mut [u8]) -> Result<usize, Failed>

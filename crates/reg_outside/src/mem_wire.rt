@@ -22,8 +22,12 @@ pub struct MemWire {
 impl Model for MemWire {
     ghost use Rattle.std.specs.Prelude.{◌≤◌, length, vec_capacity};
     ghost use Rattle.reg_outside.specs.MemWire.{WireState};
+    ghost use Rattle.std.specs.Coded.{codes};
+    ghost use Rattle.reg_outside.specs.Plan.{plan_code};
 
     ghost Value = { WireState };
+
+    ghost coded = { Prim.hlevel (codes, plan_code) };
 
     ghost view = { λ w. record { accepted = w.accepted.items; room = w.room; updates = w.updates; faults = w.faults } };
 
@@ -74,10 +78,13 @@ impl MemWire {
 
 impl Wire for MemWire {
     ghost use Rattle.std.specs.Prelude.{Some};
+    ghost use Rattle.reg_outside.specs.MemWire.{AcceptsNext};
 
     ghost accepted = { λ w. Some w.accepted };
 
     ghost faults = { λ w. w.faults };
+
+    ghost accepts_next = { AcceptsNext };
 
     fn update(&mut self, chip: u8, reg: u8, mask: Mask, bits: Mask) -> Result<(), Failed>
         ensures refused { IsErr result ↔ (RefusesNext self.old.updates ⊎ (self.old.room ≤ length self.old.accepted)) }

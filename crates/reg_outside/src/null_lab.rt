@@ -15,6 +15,8 @@ impl Wire for NullWire {
 
     ghost faults = { λ _. 0 };
 
+    ghost accepts_next = { λ _ _. Unit {0} };
+
     fn update(&mut self, _chip: u8, _reg: u8, _mask: Mask, _bits: Mask) -> Result<(), Failed>
         ensures { IsOk result }
     {
@@ -34,6 +36,8 @@ impl Lab for NullLab {
     ghost faults = { λ _ _. 0 };
 
     ghost list = { λ _ _. None };
+
+    ghost gives_room = { λ _ _ _. Unit {0} };
 
     fn wire(&mut self, _worker: u16) -> NullWire {
         NullWire

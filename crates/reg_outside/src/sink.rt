@@ -1,4 +1,4 @@
-ghost use Rattle.std.specs.Prelude.{◌≡◌, ℕ, ◌<◌, ◌≤◌, List, Option, length, take, IfOk, OnOk, OnErr};
+ghost use Rattle.std.specs.Prelude.{◌≡◌, ℕ, ◌-◌, ◌<◌, ◌≤◌, List, Option, length, take, IsOk, IfOk, OnOk, OnErr};
 ghost use Rattle.reg_outside.specs.Count.{Rose};
 ghost use Rattle.reg_outside.specs.Told.{with_more};
 
@@ -12,6 +12,9 @@ pub trait Sink {
     /// How often it has failed; stands still at the greatest `u64`.
     ghost faults: { Self → ℕ };
 
+    /// The next so many bytes are sure to be taken, in one write or in many, where the sink can tell that.
+    ghost takes_next: { Self → ℕ → Type 0 } = { λ _ _. ⊥ };
+
     /// Writes bytes from the front of `piece`, at least one, and says how many.
     /// A sink that takes none has failed.
     fn write(&mut self, piece: &[u8]) -> Result<usize, Failed>
@@ -21,5 +24,7 @@ pub trait Sink {
         ensures appended { IfOk result (λ n. written self.new ≡ with_more (written self.old) (take n piece.now)) }
         ensures failed_writes_nothing { OnErr result (written self.new ≡ written self.old) }
         ensures ok_counts_nothing { OnOk result (faults self.new ≡ faults self.old) }
-        ensures failed_counts { OnErr result (Rose (faults self.old) (faults self.new)) };
+        ensures failed_counts { OnErr result (Rose (faults self.old) (faults self.new)) }
+        ensures sure { (n : ℕ) → takes_next self.old n → 0 < n → IsOk result }
+        ensures stays_sure { IfOk result (λ count. (n : ℕ) → takes_next self.old n → takes_next self.new (n - count)) };
 }

@@ -1,7 +1,8 @@
-use Rattle.std.proofs.Common.{◌≡◌, ◌≤◌, [], length, map, refl, ◌∙◌}
+use Rattle.std.proofs.Common.{◌≡◌, ◌≤◌, [], length, map, refl, sym, subst, ◌∙◌}
 use Rattle.std.proofs.lemmas.List.{get_or-map, get_or_past, length-map, map-set, set_past}
 use Rattle.std.proofs.lemmas.List.Elements.{All-set}
-use Rattle.reg_outside.specs.MemWire.{WireState, new_wire}
+use Rattle.reg_outside.specs.MemWire.{WireState, new_wire, AcceptsNext}
+use Rattle.reg_outside.proofs.Plans.{AcceptsNext-new_wire}
 use Rattle.reg_outside.proofs.mem_lab.MemLabLab.wire.Goals as goal
 
 past : (c : goal.Else-at-len) → length (map (λ (w : WireState). w.room) c.self.inside.wires.items) ≤ c.from-at.result
@@ -23,6 +24,9 @@ returns-then-at-len-clause-given c =
 pub returns-then-at-len-clause-taken : goal.returns-then-at-len-clause-taken
 returns-then-at-len-clause-taken c =
     rw (← c.self.view_is, ← c.from-at.ensures, map-set, c.replace.ensures.after, c.without_room-without_room.ensures) refl
+
+pub returns-then-at-len-clause-room : goal.returns-then-at-len-clause-room
+returns-then-at-len-clause-room c = λ n within. subst (λ w. AcceptsNext w n) (sym (returns-then-at-len-clause-given c)) (AcceptsNext-new_wire _ n within)
 
 pub returns-else-at-len-clause-given : goal.returns-else-at-len-clause-given
 returns-else-at-len-clause-given c = rw (← c.self.view_is, ← c.from-at.ensures, get_or_past _ _ 0 (past c)) c.without_room-without_room.ensures
