@@ -1,4 +1,4 @@
-use Rattle.std.proofs.Common.{ap, ◌∙◌, sym, refl}
+use Rattle.std.proofs.Common.{ap, sym}
 use Rattle.reg_outside.specs.Plan.{refused_of}
 use Rattle.reg_outside.proofs.planned.Planned.new.Goals as goal
 

@@ -1,4 +1,4 @@
-use Rattle.std.proofs.Common.{◌≡◌, ℕ, ◌<◌, length, get_or, All, ap, sym, subst, rules}
+use Rattle.std.proofs.Common.{ℕ, ◌<◌, length, get_or, All, ap, sym, subst, rules}
 use Rattle.std.proofs.lemmas.List.Sorted.{IsNonDecreasingBy-from_sort, All-permutation}
 use Rattle.reg_outside.specs.Plan.{Plan, HasSmallNumbers}
 use Rattle.reg_outside.proofs.Plans.{from_list-IsPermutation, HasSmallNumbers-plan_of}

@@ -1,4 +1,4 @@
-use Rattle.std.proofs.Common.{◌≡◌, ℕ, ◌<◌, ◌+◌, length, get_or, rules, arith, sym, ap, ◌∙◌}
+use Rattle.std.proofs.Common.{◌≡◌, ℕ, ◌<◌, ◌+◌, length, get_or, sym, ap, ◌∙◌}
 use Rattle.std.specs.FinSet.{contains, from_list}
 use Rattle.std.specs.Ordering.{nat_cmp}
 use Rattle.reg_outside.specs.Plan.{Plan, refuses}
