@@ -1,1 +1,5 @@
+pub mod CountFacts
 pub mod Plans
+pub mod ToldFacts
+mod WorkedCounts
+mod WorkedPlans

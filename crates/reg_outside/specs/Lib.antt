@@ -1,5 +1,4 @@
 pub mod Count
-pub mod CountFacts
 pub mod MemLab
 pub mod MemSink
 pub mod MemSource
@@ -9,4 +8,3 @@ pub mod Planned
 pub mod StdSink
 pub mod StdSource
 pub mod Told
-pub mod ToldFacts

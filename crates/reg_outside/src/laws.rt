@@ -8,5 +8,4 @@ use crate::wire::Wire;
 /// fault that is counted then is one of the wire inside.
 pub fn count_is_inner<W: Wire>()
     ensures { CountIsInner W.faults }
-{
-}
+{}

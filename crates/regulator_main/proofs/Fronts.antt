@@ -2,7 +2,7 @@
 use Rattle.std.proofs.Common.{◌≡◌, ◌≢◌, ℕ, ◌+◌, ◌<◌, ◌≤◌, ◌⊎◌, inl, inr, ⊎_elim, List, ◌++◌, Option, Some, None, refl, sym, subst, ap, ◌∙◌, append-nil, arith, length, length-append}
 use Rattle.std.proofs.lemmas.Bool.{cases_lt}
 use Rattle.reg_outside.specs.Count.{Rose, Stayed}
-use Rattle.reg_outside.specs.CountFacts.{Rose-not_Stayed}
+use Rattle.reg_outside.proofs.CountFacts.{Rose-not_Stayed}
 use Rattle.plain_board.specs.declared.call.Call.{Call}
 use Rattle.plain_board.specs.Text.{printed}
 use Rattle.regulator_main.specs.declared.fault.SessionFault.{SessionFault}

@@ -5,7 +5,7 @@ use Rattle.std.proofs.lemmas.Bool.Decides.{nat_tests}
 use Rattle.std.proofs.lemmas.List.{length-map}
 use Rattle.std.proofs.lemmas.List.Elements.{All-nil}
 use Rattle.reg_outside.specs.Count.{RoseBy}
-use Rattle.reg_outside.specs.CountFacts.{RoseBy-zero}
+use Rattle.reg_outside.proofs.CountFacts.{RoseBy-zero}
 use Rattle.board.specs.declared.board.Board.{Board}
 use Rattle.plain_board.specs.declared.call.Call.{Call}
 use Rattle.plain_board.specs.declared.plain.Plain.{Plain}

@@ -6,9 +6,9 @@ use Rattle.std.proofs.lemmas.List.{take_more, map-append, flat_map_more}
 use Rattle.std.proofs.lemmas.List.Elements.{All-nil, All-push, filter-append}
 use Rattle.std.proofs.lemmas.List.Sums.{sum_by-append}
 use Rattle.reg_outside.specs.Count.{RoseBy}
-use Rattle.reg_outside.specs.CountFacts.{RoseBy-zero, RoseBy-trans}
+use Rattle.reg_outside.proofs.CountFacts.{RoseBy-zero, RoseBy-trans}
 use Rattle.reg_outside.specs.Told.{with_more}
-use Rattle.reg_outside.specs.ToldFacts.{with_more-nil, with_more-with_more}
+use Rattle.reg_outside.proofs.ToldFacts.{with_more-nil, with_more-with_more}
 use Rattle.board.specs.declared.board.Board.{Board}
 use Rattle.board.specs.declared.write.Write.{Write}
 use Rattle.plain_board.specs.declared.answer.Answer.{Answer}

@@ -4,7 +4,7 @@ use Rattle.std.specs.Prelude.{slice_get, position, All}
 use Rattle.std.specs.List.{list_all}
 use Rattle.std.proofs.lemmas.List.Elements.{All-push, All-set, filter_agree}
 use Rattle.std.proofs.lemmas.List.Quantifiers.{position-Some}
-use Rattle.reg_outside.specs.ToldFacts.{with_more-nil}
+use Rattle.reg_outside.proofs.ToldFacts.{with_more-nil}
 use Rattle.arrayvec.specs.ArrayString.{ArrayString}
 use Rattle.board.specs.declared.board.Board.{Board}
 use Rattle.board.specs.declared.rail.Rail.{Rail}

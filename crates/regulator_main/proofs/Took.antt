@@ -1,7 +1,7 @@
 use Rattle.std.proofs.Common.{◌≡◌, ◌≤◌, ◌+◌, ℕ, List, [], ◌++◌, Option, Some, None, Result, Ok, Err, length, take, arith, sym, subst, ap, ◌∙◌, length-append}
 use Rattle.std.specs.Prelude.{◌↔◌, IfSome}
 use Rattle.reg_outside.specs.Told.{with_before, IsSpent}
-use Rattle.reg_outside.specs.ToldFacts.{with_before-nil, with_before-with_before}
+use Rattle.reg_outside.proofs.ToldFacts.{with_before-nil, with_before-with_before}
 use Rattle.regulator_main.specs.declared.input.InputError.{InputError}
 use Rattle.regulator_main.specs.declared.input.InputError.TheVariants.{Failed, Memory}
 use Rattle.regulator_main.specs.Input.{TookAtMost}

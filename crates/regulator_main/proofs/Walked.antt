@@ -17,7 +17,7 @@ use Rattle.board.specs.Rail.{allowed, choices, uv, is_within}
 use Rattle.plain_board.specs.Law.{StandsWell, Throughout}
 use Rattle.plain_board.specs.Moves.{Move, after_moves, writes_of, moves_to, field_of_move, way, selector_for, update_of_field, written}
 use Rattle.reg_outside.specs.Told.{with_more}
-use Rattle.reg_outside.specs.ToldFacts.{with_more-nil, with_more-with_more}
+use Rattle.reg_outside.proofs.ToldFacts.{with_more-nil, with_more-with_more}
 use Rattle.regulator_main.specs.Walk.{Makes, MovesAlone, Updates, update_of}
 use Rattle.regulator_main.proofs.Nearest.{IsFirst}
 use Rattle.regulator_main.proofs.Steps.{way-same}

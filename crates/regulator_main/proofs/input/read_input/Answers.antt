@@ -2,7 +2,7 @@ use Rattle.std.proofs.Common.{ℕ, ◌≡◌, ◌+◌, ◌≤◌, refl, sym, sub
 use Rattle.std.proofs.lemmas.List.{take-append-drop}
 use Rattle.std.proofs.lemmas.Result.{err_from_is_err_and}
 use Rattle.reg_outside.specs.Count.{Rose}
-use Rattle.reg_outside.specs.ToldFacts.{with_before-nil}
+use Rattle.reg_outside.proofs.ToldFacts.{with_before-nil}
 use Rattle.regulator_main.specs.declared.input.InputError.TheVariants.{Failed, Memory}
 use Rattle.regulator_main.proofs.Took.{took_more, took_none, took_then, ok_is_no_failure, memory_is_no_failure, still_failed}
 use Rattle.regulator_main.proofs.input.read_input.Given as given

@@ -2,7 +2,7 @@ use Rattle.std.proofs.Common.{refl, sym, subst, ap, ◌∙◌, ◌-◌, arith, t
 use Rattle.std.proofs.lemmas.List.{take_all}
 use Rattle.reg_outside.specs.Count.{Rose}
 use Rattle.reg_outside.specs.Told.{with_more}
-use Rattle.reg_outside.specs.ToldFacts.{with_more-nil, with_more-take}
+use Rattle.reg_outside.proofs.ToldFacts.{with_more-nil, with_more-take}
 use Rattle.regulator_main.proofs.output.write_text.Goals as goal
 
 pub loop-kept-init : goal.loop-kept-init

@@ -6,6 +6,9 @@ use Rattle.reg_outside.specs.Plan.{refused_of, HasSmallNumbers}
 use Rattle.reg_outside.proofs.Plans.{refused_of-planned, refused_of-other, refusals_counted, Rose-own, Rose-inside}
 use Rattle.reg_outside.proofs.planned.PlannedWire.update.Goals as goal
 
+pub returns-then-refuses_next-clause-not_passed_on : goal.returns-then-refuses_next-clause-not_passed_on
+returns-then-refuses_next-clause-not_passed_on g c = λ _. rw (← c.self.view_is) refl
+
 pub invariant_of-self : goal.invariant_of-self
 invariant_of-self g c = (
   refusals_counted _ _ _ c.self.invariant.1 (c.if-refuses_next.ensures.refused.0 refl) c.self.invariant.0 c.saturating_add-self-inside.ensures ∙ sym (ap refused_of c.refuses_next.ensures.counted),

@@ -11,7 +11,6 @@ invariant_of-result c =
 
 pub returns-clause-plan : goal.returns-clause-plan
 returns-clause-plan c =
-   
     ap (λ numbers. let plan : Plan = record { tried = 0; numbers = numbers } in plan) (from_list-IsPermutation _ _ c.sort_unstable.ensures.permutation)
 
 pub returns-clause-small : goal.returns-clause-small
