@@ -4,6 +4,7 @@ use Rattle.std.specs.Prelude.{slice_get, IsTrue}
 use Rattle.std.proofs.lemmas.Option.{same_Some, slice_get-get_or, slice_get_within}
 use Rattle.std.proofs.lemmas.Bool.{cases_lt, cases_order}
 use Rattle.std.proofs.lemmas.Bool.Decides.{nat_tests}
+use Rattle.chip_regs.specs.Width.{register_contents}
 use Rattle.chip_regs.specs.declared.clash.Clash.{Clash}
 use Rattle.chip_regs.specs.declared.field.Field.{Field}
 use Rattle.chip_regs.specs.Field.{SharesBit}
@@ -23,7 +24,7 @@ Meets-SharesBit f g common = record {
   masks = meet-common f.mask g.mask common.bit common.in_first.2 common.in_second.2;
 }
 
-pub SharesBit-Meets : (f g : Field) → f.mask < 256 → Meets f g → SharesBit f g
+pub SharesBit-Meets : (f g : Field) → f.mask < register_contents → Meets f g → SharesBit f g
 SharesBit-Meets f g small meets =
     let common = common-bit f.mask g.mask small meets.masks in
     record {
@@ -48,7 +49,7 @@ not_zero n = grind (arith, nat_tests)
 
 -- the test of the masks decides it in one register
 pub tested :
-    (f g : Field) → f.mask < 256 → f.chip ≡ g.chip → f.reg ≡ g.reg → IsTrue (not (nat_eq (bit_and f.mask g.mask) 0)) ↔ SharesBit f g
+    (f g : Field) → f.mask < register_contents → f.chip ≡ g.chip → f.reg ≡ g.reg → IsTrue (not (nat_eq (bit_and f.mask g.mask) 0)) ↔ SharesBit f g
 tested f g small chip reg =
     let zero = not_zero (bit_and f.mask g.mask) in (
       λ t. SharesBit-Meets f g small (record { chip = chip; reg = reg; masks = zero.0 t }),

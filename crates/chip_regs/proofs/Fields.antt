@@ -1,17 +1,18 @@
 -- a field after a put: what it reads, and what every other bit reads
 use Rattle.std.proofs.Common.{ℕ, ◌≡◌, ◌+◌, ◌-◌, ◌*◌, ◌/◌, ◌%◌, ◌^◌, ◌<◌, ◌≤◌, ◌↔◌, List, bit_and, bit_or, arith, refl, sym, ◌∙◌, ap, subst, inl, inr, [], length, slice_index_or, slice_set}
 use Rattle.std.specs.Prelude.{IsBitSet}
-use Rattle.std.proofs.lemmas.Nat.{shl-shr, pow_pos, and_le_l, and_le_r, and_mask, and_shr, or_of_8}
+use Rattle.std.proofs.lemmas.Nat.{shl-shr, pow_pos, and_le_l, and_le_r, and_mask, and_shr, or_lt}
 use Rattle.std.proofs.lemmas.List.{set-get_or}
 use Rattle.std.proofs.lemmas.Bool.{cases_eq}
 use Rattle.std.proofs.Math.Nat.{mod-eq_of_lt}
+use Rattle.chip_regs.specs.Width.{register_contents, register_width}
 use Rattle.chip_regs.specs.declared.field.Field.{Field}
 use Rattle.chip_regs.specs.Field.{IsField, FitsField, HasBit, SharesBit}
 use Rattle.chip_regs.specs.Registers.{IsImage, CanPut, chip_of, byte_of, with_byte, field_of, with_field}
 use Rattle.chip_regs.proofs.Masks.{kept_of, kept_of-not, and-merged, and-merged_apart, merged, and-run, run_below, and-high_run, common-bit}
 use Rattle.chip_regs.proofs.Image.{IsImage-with_byte, length-with_byte, byte_of-lt, byte_of-with_byte, byte_of-with_byte_other}
 
-pub mask-lt : (f : Field) → IsField f → f.mask < 256
+pub mask-lt : (f : Field) → IsField f → f.mask < register_contents
 mask-lt f field = rw field.run (run_below field.width f.shift field.within)
 
 -- the greatest number of a field has as many ones as the field has bits
@@ -24,17 +25,17 @@ below-width f n field room =
 pub and-mask : (f : Field) (n : ℕ) → IsField f → FitsField f n → bit_and (n * 2 ^ f.shift) f.mask ≡ n * 2 ^ f.shift
 and-mask f n field room = ap (bit_and (n * 2 ^ f.shift)) field.run ∙ and-run field.width f.shift n (below-width f n field room)
 
-pub part-lt : (f : Field) (n : ℕ) → IsField f → FitsField f n → n * 2 ^ f.shift < 256
+pub part-lt : (f : Field) (n : ℕ) → IsField f → FitsField f n → n * 2 ^ f.shift < register_contents
 part-lt f n field room =
     let under : bit_and (n * 2 ^ f.shift) f.mask ≤ f.mask = and_le_r (n * 2 ^ f.shift) f.mask in
     omega (arith, under, and-mask f n field room, mask-lt f field)
 
 -- the byte that `put` writes
 pub put-byte :
-    (f : Field) (byte n : ℕ) → IsField f → FitsField f n → byte < 256
-    → bit_or (bit_and byte (255 - f.mask)) (n * 2 ^ f.shift % 256) ≡ kept_of byte f.mask + n * 2 ^ f.shift
+    (f : Field) (byte n : ℕ) → IsField f → FitsField f n → byte < register_contents
+    → bit_or (bit_and byte (register_contents - 1 - f.mask)) (n * 2 ^ f.shift % register_contents) ≡ kept_of byte f.mask + n * 2 ^ f.shift
 put-byte f byte n field room small =
-    ap (λ x. bit_or (bit_and byte (255 - f.mask)) x) (mod-eq_of_lt (part-lt f n field room))
+    ap (λ x. bit_or (bit_and byte (register_contents - 1 - f.mask)) x) (mod-eq_of_lt (part-lt f n field room))
     ∙ ap (λ x. bit_or x (n * 2 ^ f.shift)) (kept_of-not byte f.mask small (mask-lt f field))
     ∙ merged byte f.mask (n * 2 ^ f.shift) small (mask-lt f field) (and-mask f n field room)
 
@@ -90,26 +91,26 @@ bits-with_field R f n chip reg bit can outside =
 -- what `put` leaves: one register of one chip written
 pub put-registers :
     (R : List (List ℕ)) (f : Field) (n chip reg : ℕ) (line : List ℕ) → CanPut R f n → chip ≡ f.chip → reg ≡ f.reg → line ≡ chip_of R f.chip
-    → slice_set R chip (slice_set line reg (bit_or (bit_and (slice_index_or line reg 0) (255 - f.mask)) (n * 2 ^ f.shift % 256))) ≡ with_field R f n
+    → slice_set R chip (slice_set line reg (bit_or (bit_and (slice_index_or line reg 0) (register_contents - 1 - f.mask)) (n * 2 ^ f.shift % register_contents))) ≡ with_field R f n
 unfolding with_field with_byte byte_of
 put-registers R f n chip reg line can at_chip at_reg is =
     let byte = slice_index_or (chip_of R f.chip) f.reg 0 in
-    let small : byte < 256 = byte_of-lt R f.chip f.reg can.image can.chip in
-    ap (λ c. slice_set R c (slice_set line reg (bit_or (bit_and (slice_index_or line reg 0) (255 - f.mask)) (n * 2 ^ f.shift % 256)))) at_chip
-    ∙ ap (λ r. slice_set R f.chip (slice_set line r (bit_or (bit_and (slice_index_or line r 0) (255 - f.mask)) (n * 2 ^ f.shift % 256)))) at_reg
-    ∙ ap (λ l. slice_set R f.chip (slice_set l f.reg (bit_or (bit_and (slice_index_or l f.reg 0) (255 - f.mask)) (n * 2 ^ f.shift % 256)))) is
+    let small : byte < register_contents = byte_of-lt R f.chip f.reg can.image can.chip in
+    ap (λ c. slice_set R c (slice_set line reg (bit_or (bit_and (slice_index_or line reg 0) (register_contents - 1 - f.mask)) (n * 2 ^ f.shift % register_contents)))) at_chip
+    ∙ ap (λ r. slice_set R f.chip (slice_set line r (bit_or (bit_and (slice_index_or line r 0) (register_contents - 1 - f.mask)) (n * 2 ^ f.shift % register_contents)))) at_reg
+    ∙ ap (λ l. slice_set R f.chip (slice_set l f.reg (bit_or (bit_and (slice_index_or l f.reg 0) (register_contents - 1 - f.mask)) (n * 2 ^ f.shift % register_contents)))) is
     ∙ ap (λ b. slice_set R f.chip (slice_set (chip_of R f.chip) f.reg b)) (put-byte f byte n can.field can.room small)
 
 pub IsImage-with_field : (R : List (List ℕ)) (f : Field) (n : ℕ) → CanPut R f n → IsImage (with_field R f n)
 unfolding with_field
 IsImage-with_field R f n can =
     let byte = byte_of R f.chip f.reg in
-    let small : byte < 256 = byte_of-lt R f.chip f.reg can.image can.chip in
+    let small : byte < register_contents = byte_of-lt R f.chip f.reg can.image can.chip in
     let masked = mask-lt f can.field in
     let inside = and-mask f n can.field can.room in
-    let new : kept_of byte f.mask + n * 2 ^ f.shift < 256 =
-    subst (λ x. x < 256) (merged byte f.mask (n * 2 ^ f.shift) small masked inside)
-    (or_of_8 (kept_of byte f.mask) (n * 2 ^ f.shift) (omega arith) (part-lt f n can.field can.room)) in
+    let new : kept_of byte f.mask + n * 2 ^ f.shift < register_contents =
+    subst (λ x. x < register_contents) (merged byte f.mask (n * 2 ^ f.shift) small masked inside)
+    (or_lt register_width (kept_of byte f.mask) (n * 2 ^ f.shift) (omega arith) (part-lt f n can.field can.room)) in
     IsImage-with_byte R f.chip f.reg (kept_of byte f.mask + n * 2 ^ f.shift) can.chip new can.image
 
 pub length-with_field : (R : List (List ℕ)) (f : Field) (n : ℕ) → length (with_field R f n) ≡ length R

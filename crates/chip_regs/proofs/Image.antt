@@ -5,33 +5,34 @@ use Rattle.std.proofs.lemmas.List.Elements.{All-set}
 use Rattle.std.proofs.lemmas.Bool.{cases_eq, cases_lt}
 use Rattle.std.specs.Prelude.{All}
 use Rattle.std.proofs.Common.{inl, inr}
+use Rattle.chip_regs.specs.Width.{chip_registers, register_contents}
 use Rattle.chip_regs.specs.Registers.{IsImage, HasChip, chip_of, byte_of, with_byte}
 
--- a chip has 256 registers
+-- a chip has all its registers
 abbrev pub IsChip : List ℕ → Type 0
-IsChip chip = (length chip ≡ 256) × All (λ byte. byte < 256) chip
+IsChip chip = (length chip ≡ chip_registers) × All (λ byte. byte < register_contents) chip
 
-pub IsImage-replicate : (chips : ℕ) → IsImage (replicate chips (replicate 256 0))
+pub IsImage-replicate : (chips : ℕ) → IsImage (replicate chips (replicate chip_registers 0))
 IsImage-replicate chips k d within =
-    let blank : List ℕ = replicate 256 0 in
+    let blank : List ℕ = replicate chip_registers 0 in
     let chip : k < chips = subst (λ n. k < n) (length-replicate chips blank) within in
-    let whole : IsChip blank = (refl, λ j e inside. rw (get_or-replicate 256 j 0 e) (lit< tt)) in
+    let whole : IsChip blank = (refl, λ j e inside. rw (get_or-replicate chip_registers j 0 e) (lit< tt)) in
     rw (get_or-replicate chips k blank d chip) whole
 
 pub length-with_byte : (R : List (List ℕ)) (chip reg byte : ℕ) → length (with_byte R chip reg byte) ≡ length R
 unfolding with_byte
 length-with_byte R chip reg byte = length-set R chip (slice_set (chip_of R chip) reg byte)
 
-pub IsImage-with_byte : (R : List (List ℕ)) (chip reg byte : ℕ) → HasChip R chip → byte < 256 → IsImage R → IsImage (with_byte R chip reg byte)
+pub IsImage-with_byte : (R : List (List ℕ)) (chip reg byte : ℕ) → HasChip R chip → byte < register_contents → IsImage R → IsImage (with_byte R chip reg byte)
 unfolding with_byte
 IsImage-with_byte R chip reg byte has small image =
     let old : IsChip (chip_of R chip) = image chip [] has in
     let new : IsChip (slice_set (chip_of R chip) reg byte) =
-    (length-set (chip_of R chip) reg byte ∙ old.0, All-set (λ b. b < 256) (chip_of R chip) reg byte small old.1) in
+    (length-set (chip_of R chip) reg byte ∙ old.0, All-set (λ b. b < register_contents) (chip_of R chip) reg byte small old.1) in
     All-set IsChip R chip (slice_set (chip_of R chip) reg byte) new image
 
 -- a register of the image is a byte
-pub byte_of-lt : (R : List (List ℕ)) (chip reg : ℕ) → IsImage R → HasChip R chip → byte_of R chip reg < 256
+pub byte_of-lt : (R : List (List ℕ)) (chip reg : ℕ) → IsImage R → HasChip R chip → byte_of R chip reg < chip_registers
 unfolding byte_of
 byte_of-lt R chip reg image has =
     let old : IsChip (chip_of R chip) = image chip [] has in
@@ -40,7 +41,7 @@ byte_of-lt R chip reg image has =
       | inr past ↦ rw (get_or_past (chip_of R chip) reg 0 past) (lit< tt)
     ]
 
-pub byte_of-with_byte : (R : List (List ℕ)) (chip reg byte : ℕ) → IsImage R → HasChip R chip → reg < 256 → byte_of (with_byte R chip reg byte) chip reg ≡ byte
+pub byte_of-with_byte : (R : List (List ℕ)) (chip reg byte : ℕ) → IsImage R → HasChip R chip → reg < chip_registers → byte_of (with_byte R chip reg byte) chip reg ≡ byte
 unfolding byte_of with_byte
 byte_of-with_byte R chip reg byte image has within =
     let old : IsChip (chip_of R chip) = image chip [] has in

@@ -2,3 +2,4 @@ pub mod Masks
 pub mod Image
 pub mod Fields
 pub mod Clashes
+mod Worked

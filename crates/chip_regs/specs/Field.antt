@@ -1,11 +1,12 @@
 use Rattle.std.specs.Prelude.{ℕ, ◌≡◌, ◌+◌, ◌-◌, ◌*◌, ◌/◌, ◌^◌, ◌<◌, ◌≤◌, IsBitSet}
+use Rattle.chip_regs.specs.Width.{register_width}
 use Rattle.chip_regs.specs.declared.field.Field.{Field}
 
 -- the mask is one run of ones that starts at the bit `shift`, within a register
 pub record IsField (f : Field) : Type 0 where
   pub width : ℕ
   pub some_bit : 0 < width
-  pub within : f.shift + width ≤ 8
+  pub within : f.shift + width ≤ register_width
   pub run : f.mask ≡ (2 ^ width - 1) * 2 ^ f.shift
 
 -- the greatest number that the field can hold: ones in all of its bits

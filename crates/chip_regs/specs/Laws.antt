@@ -22,7 +22,7 @@ PutKeepsBits =
     (R : List (List ℕ)) (f : Field) (n chip reg bit : ℕ) → CanPut R f n → ¬ HasBit f chip reg bit
     → IsBitSet (byte_of (with_field R f n) chip reg) bit ↔ IsBitSet (byte_of R chip reg) bit
 
--- the chips stay, each with 256 registers of a byte
+-- the chips stay, each with all its registers
 abbrev pub PutKeepsChips : Type 0
 PutKeepsChips = (R : List (List ℕ)) (f : Field) (n : ℕ) → CanPut R f n → IsImage (with_field R f n) × (length (with_field R f n) ≡ length R)
 

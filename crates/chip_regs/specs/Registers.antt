@@ -1,10 +1,11 @@
 use Rattle.std.specs.Prelude.{ℕ, ◌≡◌, ◌+◌, ◌-◌, ◌*◌, ◌/◌, ◌^◌, ◌<◌, List, [], length, slice_index, slice_index_or, slice_set, All, bit_and}
+use Rattle.chip_regs.specs.Width.{chip_registers, register_contents}
 use Rattle.chip_regs.specs.declared.field.Field.{Field}
 use Rattle.chip_regs.specs.Field.{IsField, FitsField}
 
--- each chip has 256 registers, and each register holds a byte
+-- each chip has all its registers, and each register holds a number of its width
 abbrev pub IsImage : List (List ℕ) → Type 0
-IsImage R = All (λ chip. (length chip ≡ 256) × All (λ byte. byte < 256) chip) R
+IsImage R = All (λ chip. (length chip ≡ chip_registers) × All (λ byte. byte < register_contents) chip) R
 
 -- the chip is one of those whose registers these are
 abbrev pub HasChip : List (List ℕ) → ℕ → Type 0
@@ -36,6 +37,6 @@ with_field R f n =
 pub record CanPut (R : List (List ℕ)) (f : Field) (n : ℕ) : Type 0 where
   pub image : IsImage R
   pub chip : HasChip R f.chip
-  pub reg : f.reg < 256
+  pub reg : f.reg < chip_registers
   pub field : IsField f
   pub room : FitsField f n

@@ -1,7 +1,6 @@
 ghost use Rattle.std.specs.Prelude.{IsTrue, ◌↔◌};
 
-/// The content of a register, a mask, or the number in a field: as wide as a register.
-pub type Bits = u8;
+use crate::width::{Address, Bits, WIDTH};
 
 /// Neighbouring bits of one register that hold a number together, as a data sheet names them.
 ///
@@ -11,7 +10,7 @@ pub struct Field {
     /// The chip, by its place on the board.
     pub chip: u8,
     /// The address of the register in the chip.
-    pub reg: u8,
+    pub reg: Address,
     /// The bits of the field.
     pub mask: Bits,
     /// The place of the field's lowest bit.
@@ -27,11 +26,11 @@ impl Field {
         ensures { IsTrue result ↔ IsField self.now }
     {
         let shift = u32::from(self.shift);
-        if shift >= Bits::BITS {
+        if shift >= WIDTH {
             return false;
         }
-        for width in 1..Bits::BITS - shift + 1 {
-            let run = Bits::MAX >> (Bits::BITS - width);
+        for width in 1..WIDTH - shift + 1 {
+            let run = Bits::MAX >> (WIDTH - width);
             if self.mask == run << shift {
                 return true;
             }

@@ -22,7 +22,7 @@ pub fn put_keeps_bits()
     ensures { PutKeepsBits }
 {}
 
-/// A put leaves the chips, each with 256 registers.
+/// A put leaves the chips, each with all its registers.
 pub fn put_keeps_chips()
     ensures { PutKeepsChips }
 {}

@@ -6,7 +6,9 @@ mod clash;
 mod field;
 pub mod laws;
 mod regs;
+mod width;
 
 pub use clash::{Clash, disjoint};
-pub use field::{Bits, Field};
+pub use field::Field;
 pub use regs::Regs;
+pub use width::{Address, Bits, REGISTERS, WIDTH};

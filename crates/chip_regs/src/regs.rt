@@ -3,15 +3,16 @@ ghost use Rattle.chip_regs.specs.Registers.{byte_of, with_byte, field_of, with_f
 ghost use Rattle.chip_regs.specs.declared.field.Field.{Field};
 ghost use Rattle.chip_regs.specs.Field.{IsField, FitsField, HasBit, SharesBit};
 
-use crate::field::{Bits, Field};
+use crate::field::Field;
+use crate::width::{Address, Bits, REGISTERS};
 use std::alloc::{AllocError, Global};
 use std::marker::Model;
 
-/// The registers of a board's chips, 256 a chip. Contracts see the chips in order, each as the
+/// The registers of a board's chips. Contracts see the chips in order, each as the
 /// list of what its registers hold.
 #[derive(Drop)]
 pub struct Regs {
-    chips: Vec<[Bits; 256]>,
+    chips: Vec<[Bits; REGISTERS]>,
 }
 
 impl Model for Regs {
@@ -28,11 +29,11 @@ impl Model for Regs {
 impl Regs {
     /// All registers of so many chips, each 0.
     pub fn new(alloc: Global, chips: u8) -> Result<Regs, AllocError>
-        ensures { IfOk result (λ regs. regs ≡ replicate chips (replicate 256 0)) }
+        ensures { IfOk result (λ regs. regs ≡ replicate chips (replicate REGISTERS 0)) }
     {
         let mut blank = Vec::with_capacity(alloc, usize::from(chips))?;
         for _chip in 0..chips {
-            blank.push([0; 256])?;
+            blank.push([0; REGISTERS])?;
         }
         Ok(Regs { chips: blank })
     }
@@ -47,7 +48,7 @@ impl Regs {
 
     /// The content of a register.
     #[tactic(auto, unfolding(crate::specs::Registers::byte_of))]
-    pub fn byte(&self, chip: u8, reg: u8) -> Bits
+    pub fn byte(&self, chip: u8, reg: Address) -> Bits
         requires { HasChip self.now chip }
         ensures { result ≡ byte_of self.now chip reg }
     {
@@ -55,7 +56,7 @@ impl Regs {
     }
 
     /// Writes a whole register. Every other register stays.
-    pub fn set_byte(&mut self, chip: u8, reg: u8, byte: Bits)
+    pub fn set_byte(&mut self, chip: u8, reg: Address, byte: Bits)
         requires { HasChip self.old chip }
         ensures registers { self.new ≡ with_byte self.old chip reg byte }
         ensures written { byte_of self.new chip reg ≡ byte }

@@ -1,5 +1,6 @@
 use Rattle.std.proofs.Common.{◌≡◌, ◌<◌, ◌*◌, ◌%◌, ◌^◌, ◌-◌, [], length, slice_set, slice_index_or, bit_and, bit_or, arith, ◌∙◌, sym, ap, subst}
 use Rattle.std.proofs.lemmas.List.{get_or_default}
+use Rattle.chip_regs.specs.Width.{register_contents}
 use Rattle.chip_regs.specs.Registers.{CanPut, with_field, field_of, chip_of, HasChip, IsImage}
 use Rattle.chip_regs.proofs.Fields.{put-registers, field_of-with_field, bits_kept, field_of-with_field_apart, length-with_field, IsImage-with_field}
 use Rattle.chip_regs.proofs.regs.Regs.put.Goals as goal
@@ -16,7 +17,7 @@ can c = record {
 written : (c : goal.After-self-1) →
     slice_set c.self.inside.chips.items c.from.result
     (slice_set c.index_mut.result.now c.from-2.result
-    (bit_or (bit_and (slice_index_or c.index_mut.result.now c.from-2.result 0) (255 - c.args.field.now.mask)) (c.args.bits * 2 ^ c.args.field.now.shift % 256)))
+    (bit_or (bit_and (slice_index_or c.index_mut.result.now c.from-2.result 0) (register_contents - 1 - c.args.field.now.mask)) (c.args.bits * 2 ^ c.args.field.now.shift % register_contents)))
     ≡ with_field c.self.inside.chips.items c.args.field.now c.args.bits
 written c =
     let R = c.self.inside.chips.items in
