@@ -1,9 +1,6 @@
 -- registers, fields and clashes worked out by hand: two chips, and the register 0x30 of the second holds 0x15
-use Rattle.std.proofs.Common.{ℕ, ◌≡◌, ◌≢◌, ◌<◌, ◌≤◌, ◌-◌, ◌*◌, ◌^◌, List, [], ◌∷◌, Some, length, replicate, bit_and, refl, sym, subst, ◌∙◌, ap, inl, inr, suc, zero, lit<, lit≤, arith}
-use Rattle.std.specs.Prelude.{IsBitSet, slice_get}
-use Rattle.std.proofs.lemmas.Option.{same_Some}
-use Rattle.chip_regs.specs.Width.{chip_registers, register_contents, register_width}
-use Rattle.chip_regs.specs.declared.clash.Clash.{Clash}
+use Rattle.std.proofs.Common.{ℕ, ◌≡◌, ◌<◌, ◌≤◌, ◌-◌, ◌*◌, ◌^◌, List, [], ◌∷◌, length, replicate, refl, subst, inl, inr, suc, zero, lit<, lit≤, arith}
+use Rattle.chip_regs.specs.Width.{chip_registers, register_contents}
 use Rattle.chip_regs.specs.declared.field.Field.{Field}
 use Rattle.chip_regs.specs.Field.{IsField, greatest_of, FitsField, HasBit, SharesBit}
 use Rattle.chip_regs.specs.Registers.{IsImage, HasChip, byte_of, with_byte, field_of, with_field, CanPut}

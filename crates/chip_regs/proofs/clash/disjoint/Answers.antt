@@ -1,14 +1,11 @@
-use Rattle.std.proofs.Common.{ℕ, arith, below_more, refl, rules}
+use Rattle.std.proofs.Common.{ℕ, arith, below_more, refl}
 use Rattle.std.specs.Prelude.{IsTrue}
 use Rattle.chip_regs.specs.Clash.{ClashesAt}
-use Rattle.chip_regs.proofs.Clashes.{clash-at, apart-read, clash_within, first-clash, none-clash, clash-not_none}
+use Rattle.chip_regs.proofs.Clashes.{clash-at, apart-read, clash_within, first-clash, none-clash}
 use Rattle.chip_regs.proofs.clash.disjoint.Goals as goal
 
 found : (c : goal.Then-shares_bit) → ClashesAt c.args.fields.now c.loop-first.first c.loop-second.second
 found c = clash-at c.args.fields.now c.loop-first.first c.loop-second.second (omega arith) c.loop-second-test.true (c.shares_bit.ensures.0 c.if-shares_bit.true)
-
-pub returns-then-shares_bit-clause-ok : goal.returns-then-shares_bit-clause-ok
-returns-then-shares_bit-clause-ok c = (λ ok. absurd (search rules), λ none. absurd (clash-not_none c.args.fields.now c.loop-first.first c.loop-second.second (found c) none))
 
 pub returns-then-shares_bit-clause-clash : goal.returns-then-shares_bit-clause-clash
 returns-then-shares_bit-clause-clash c = first-clash c.args.fields.now _ c.loop-first.invariant c.loop-second.invariant (found c)

@@ -2,7 +2,7 @@ use Rattle.std.proofs.Common.{◌≡◌, ◌<◌, ◌*◌, ◌%◌, ◌^◌, ◌
 use Rattle.std.proofs.lemmas.List.{get_or_default}
 use Rattle.chip_regs.specs.Width.{register_contents}
 use Rattle.chip_regs.specs.Registers.{CanPut, with_field, field_of, chip_of, HasChip, IsImage}
-use Rattle.chip_regs.proofs.Fields.{put-registers, field_of-with_field, bits_kept, field_of-with_field_apart, length-with_field, IsImage-with_field}
+use Rattle.chip_regs.proofs.Fields.{put-registers, field_of-with_field, bits_kept, field_of-with_field_apart, IsImage-with_field}
 use Rattle.chip_regs.proofs.regs.Regs.put.Goals as goal
 
 can : (c : goal.After-self-1) → CanPut c.self.inside.chips.items c.args.field.now c.args.bits
@@ -47,7 +47,3 @@ returns-clause-other_fields c other apart =
     ap (λ R. field_of R other) (written c)
     ∙ field_of-with_field_apart c.self.inside.chips.items c.args.field.now c.args.bits other (can c) apart
     ∙ ap (λ R. field_of R other) c.self.view_is
-
-pub returns-clause-chips : goal.returns-clause-chips
-returns-clause-chips c =
-    ap length (written c) ∙ length-with_field c.self.inside.chips.items c.args.field.now c.args.bits ∙ ap length c.self.view_is

@@ -1,7 +1,7 @@
 use Rattle.std.proofs.Common.{◌≡◌, ◌<◌, [], length, slice_set, slice_index_or, arith, ◌∙◌, sym, ap, subst}
 use Rattle.std.proofs.lemmas.List.{get_or_default}
-use Rattle.chip_regs.specs.Registers.{with_byte, byte_of, chip_of, HasChip, IsImage}
-use Rattle.chip_regs.proofs.Image.{set-registers, byte_of-with_byte, byte_of-with_byte_other, length-with_byte, IsImage-with_byte}
+use Rattle.chip_regs.specs.Registers.{with_byte, byte_of, chip_of, HasChip}
+use Rattle.chip_regs.proofs.Image.{set-registers, byte_of-with_byte, byte_of-with_byte_other}
 use Rattle.chip_regs.proofs.regs.Regs.set_byte.Goals as goal
 
 has : (c : goal.After-self-1) → HasChip c.self.inside.chips.items c.args.chip
@@ -31,12 +31,3 @@ returns-clause-others c chip reg apart =
     ap (λ R. byte_of R chip reg) (written c)
     ∙ byte_of-with_byte_other c.self.inside.chips.items c.args.chip c.args.reg c.args.byte chip reg (has c) apart
     ∙ ap (λ R. byte_of R chip reg) c.self.view_is
-
-pub returns-clause-chips : goal.returns-clause-chips
-returns-clause-chips c =
-    ap length (written c) ∙ length-with_byte c.self.inside.chips.items c.args.chip c.args.reg c.args.byte ∙ ap length c.self.view_is
-
-pub invariant_of-self : goal.invariant_of-self
-invariant_of-self c =
-    subst IsImage (sym (written c))
-    (IsImage-with_byte c.self.inside.chips.items c.args.chip c.args.reg c.args.byte (has c) (omega arith) c.self.invariant)
