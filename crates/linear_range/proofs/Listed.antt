@@ -6,8 +6,9 @@ use Rattle.std.specs.Prelude.{MatchOption}
 use Rattle.std.specs.List.{All, AllPairs, Contains}
 use Rattle.linear_range.specs.declared.linear_range.LinearRange.{LinearRange}
 use Rattle.linear_range.specs.LinearRange.{IsSound, IsFitting}
-use Rattle.linear_range.specs.Values.{value_in, value_of, selectors_end, values, pick_high, pick_low}
-use Rattle.linear_range.specs.Laws.{ListsValues, SelectorsRise, IsBounded, PicksHigh, PicksLow, IsHighPick, IsLowPick}
+use Rattle.value_list.proofs.Extremes as pairs
+use Rattle.linear_range.specs.Values.{value_in, value_of, selectors_end, values}
+use Rattle.linear_range.specs.Laws.{ListsValues, SelectorsRise, IsBounded, PicksHigh, PicksLow}
 use Rattle.linear_range.proofs.Picks.{upwards, downwards, BestOf, InSegment, pairs_between}
 use Rattle.linear_range.proofs.Tables.{HasValue, in_segment, value_of-below, member_from_value_in, pick_high-best, pick_low-best}
 use Rattle.linear_range.proofs.Singles.{member_high}
@@ -114,33 +115,7 @@ module _ (rs : List LinearRange) where
       (values rs) all_have
 
   pub picks_high : PicksHigh rs
-  picks_high u = by_pick (pick_high (values rs) u) (pick_high-best rs u)
-    where
-      by_pick : (o : Option (ℕ × ℕ)) → BestOf (λ uv. leb u uv) upwards (HasValue rs) o
-          → MatchOption o (All (λ q. q.1 < u) (values rs)) (IsHighPick (values rs) u)
-      by_pick None b =
-          All-weaker Has (λ q. q.1 < u) (λ q h. leb-false u q.1 (b q.0 q.1 h)) (values rs) all_have
-      by_pick (Some p) b = record {
-        among = contains_value p.0 p.1 b.has;
-        not_below = leb-true _ _ b.allowed;
-        least = All-weaker Has (λ q. u ≤ q.1 → p.1 ≤ q.1)
-            (λ q h k. leb-true _ _ (b.best q.0 q.1 h (le-leb _ _ k))) (values rs) all_have;
-        first = All-weaker Has (λ q. q.1 ≡ p.1 → p.0 ≤ q.0)
-            (λ q h e. b.first q.0 (subst (λ v. HasValue rs q.0 v) e h)) (values rs) all_have;
-      }
+  picks_high = pairs.picks_high (values rs) selectors_rise
 
   pub picks_low : PicksLow rs
-  picks_low u = by_pick (pick_low (values rs) u) (pick_low-best rs u)
-    where
-      by_pick : (o : Option (ℕ × ℕ)) → BestOf (λ uv. leb uv u) downwards (HasValue rs) o
-          → MatchOption o (All (λ q. u < q.1) (values rs)) (IsLowPick (values rs) u)
-      by_pick None b =
-          All-weaker Has (λ q. u < q.1) (λ q h. leb-false q.1 u (b q.0 q.1 h)) (values rs) all_have
-      by_pick (Some p) b = record {
-        among = contains_value p.0 p.1 b.has;
-        not_above = leb-true _ _ b.allowed;
-        greatest = All-weaker Has (λ q. q.1 ≤ u → q.1 ≤ p.1)
-            (λ q h k. leb-true _ _ (b.best q.0 q.1 h (le-leb _ _ k))) (values rs) all_have;
-        first = All-weaker Has (λ q. q.1 ≡ p.1 → p.0 ≤ q.0)
-            (λ q h e. b.first q.0 (subst (λ v. HasValue rs q.0 v) e h)) (values rs) all_have;
-      }
+  picks_low = pairs.picks_low (values rs) selectors_rise

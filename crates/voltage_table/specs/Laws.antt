@@ -1,7 +1,9 @@
 -- What holds of every list.
-use Rattle.std.specs.Prelude.{◌≡◌, ℕ, ◌^◌, ◌<◌, ◌≤◌, ◌↔◌, List, Some, MatchOption}
-use Rattle.std.specs.List.{All, AllPairs, Contains}
-use Rattle.voltage_table.specs.Values.{value_of, values, pick_high, pick_low}
+use Rattle.std.specs.Prelude.{◌≡◌, ℕ, ◌↔◌, List, Some}
+use Rattle.std.specs.List.{Contains}
+use Rattle.value_list.specs.Laws as pairs
+pub use Rattle.value_list.specs.Laws.{IsHighPick, IsLowPick}
+use Rattle.voltage_table.specs.Values.{value_of, values}
 
 -- the pairs written out are those of the selectors with a value
 abbrev pub ListsValues : List ℕ → Type 0
@@ -9,34 +11,16 @@ ListsValues xs = (sel uv : ℕ) → Contains (values xs) (sel, uv) ↔ (value_of
 
 -- their selectors rise
 abbrev pub SelectorsRise : List ℕ → Type 0
-SelectorsRise xs = AllPairs (λ p q. p.0 < q.0) (values xs)
+SelectorsRise xs = pairs.SelectorsRise (values xs)
 
 -- each selector is a `u16`, and each value a `u32`
 abbrev pub IsBounded : List ℕ → Type 0
-IsBounded xs = All (λ p. (p.0 < 2 ^ 16) × (p.1 < 2 ^ 32)) (values xs)
+IsBounded xs = pairs.IsBounded (values xs)
 
--- p is one of the pairs, not below u; no other pair that is not below u has fewer µV, and p is the
--- first with its µV
-pub record IsHighPick (ps : List (ℕ × ℕ)) (u : ℕ) (p : ℕ × ℕ) : Type 0 where
-  pub among : Contains ps p
-  pub not_below : u ≤ p.1
-  pub least : All (λ q. u ≤ q.1 → p.1 ≤ q.1) ps
-  pub first : All (λ q. q.1 ≡ p.1 → p.0 ≤ q.0) ps
-
--- p is one of the pairs, not above u; no other pair that is not above u has more µV, and p is the
--- first with its µV
-pub record IsLowPick (ps : List (ℕ × ℕ)) (u : ℕ) (p : ℕ × ℕ) : Type 0 where
-  pub among : Contains ps p
-  pub not_above : p.1 ≤ u
-  pub greatest : All (λ q. q.1 ≤ u → q.1 ≤ p.1) ps
-  pub first : All (λ q. q.1 ≡ p.1 → p.0 ≤ q.0) ps
-
--- a pick is the least not below u, and there is none only where every value is below u
+-- a pick is the least not below the value asked for
 abbrev pub PicksHigh : List ℕ → Type 0
-PicksHigh xs = (u : ℕ)
-    → MatchOption (pick_high (values xs) u) (All (λ q. q.1 < u) (values xs)) (IsHighPick (values xs) u)
+PicksHigh xs = pairs.PicksHigh (values xs)
 
--- a pick is the greatest not above u, and there is none only where every value is above u
+-- a pick is the greatest not above the value asked for
 abbrev pub PicksLow : List ℕ → Type 0
-PicksLow xs = (u : ℕ)
-    → MatchOption (pick_low (values xs) u) (All (λ q. u < q.1) (values xs)) (IsLowPick (values xs) u)
+PicksLow xs = pairs.PicksLow (values xs)

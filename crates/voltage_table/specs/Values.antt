@@ -1,6 +1,7 @@
--- The values of a list, written out with their selectors, and the picks among them.
-use Rattle.std.specs.Prelude.{ℕ, nat_le, if◌then◌else◌, List, [], ◌∷◌, Option, None, Some, slice_get}
-use Rattle.std.specs.List.{filter, enumerate_from}
+-- The values of a list, written out with their selectors.
+use Rattle.std.specs.Prelude.{ℕ, List, Option, slice_get}
+use Rattle.std.specs.List.{enumerate_from}
+pub use Rattle.value_list.specs.Picks.{lesser_pair, least_pair, greater_pair, greatest_pair, pick_high, pick_low}
 
 -- the value of a selector: the entry at its place
 abbrev pub value_of : List ℕ → ℕ → Option ℕ
@@ -9,31 +10,3 @@ value_of xs sel = slice_get xs sel
 -- the pairs (selector, µV), selector by selector from 0 on
 abbrev pub values : List ℕ → List (ℕ × ℕ)
 values xs = enumerate_from 0 xs
-
--- the earlier of two pairs, unless the later one has fewer µV
-abbrev pub lesser_pair : ℕ × ℕ → Option (ℕ × ℕ) → ℕ × ℕ
-lesser_pair p None = p
-lesser_pair p (Some q) = if nat_le p.1 q.1 then p else q
-
--- the pair with the least µV, at its first place
-abbrev pub least_pair : List (ℕ × ℕ) → Option (ℕ × ℕ)
-least_pair [] = None
-least_pair (p ∷ ps) = Some (lesser_pair p (least_pair ps))
-
--- the earlier of two pairs, unless the later one has more µV
-abbrev pub greater_pair : ℕ × ℕ → Option (ℕ × ℕ) → ℕ × ℕ
-greater_pair p None = p
-greater_pair p (Some q) = if nat_le q.1 p.1 then p else q
-
--- the pair with the most µV, at its first place
-abbrev pub greatest_pair : List (ℕ × ℕ) → Option (ℕ × ℕ)
-greatest_pair [] = None
-greatest_pair (p ∷ ps) = Some (greater_pair p (greatest_pair ps))
-
--- among the pairs not below u the one with the least µV, at its first place
-abbrev pub pick_high : List (ℕ × ℕ) → ℕ → Option (ℕ × ℕ)
-pick_high ps u = least_pair (filter (λ p. nat_le u p.1) ps)
-
--- among the pairs not above u the one with the most µV, at its first place
-abbrev pub pick_low : List (ℕ × ℕ) → ℕ → Option (ℕ × ℕ)
-pick_low ps u = greatest_pair (filter (λ p. nat_le p.1 u) ps)
