@@ -1,6 +1,6 @@
 //! Fields and their registers, with bytes worked out by hand.
 use crate::same::assert_same;
-use chip_regs::{Clash, Field, Regs, disjoint, laws};
+use chip_regs::{Address, Clash, Field, REGISTERS, Regs, WIDTH, disjoint, laws};
 use std::process::Abort;
 use std::test::Fail;
 
@@ -13,6 +13,9 @@ fn field(chip: u8, reg: u8, mask: u8, shift: u8) -> Field {
     }
 }
 
+/// The last register of a chip.
+const LAST: Address = (REGISTERS - 1) as Address;
+
 /// Mask, shift, whether they make a field.
 const MASKS: &[(u8, u8, bool)] = &[
     (0x01, 0, true),
@@ -21,11 +24,11 @@ const MASKS: &[(u8, u8, bool)] = &[
     (0x80, 7, true),
     (0xff, 0, true),
     (0x00, 0, false),
-    (0x00, 8, false),
+    (0x00, WIDTH as u8, false),
     (0x70, 3, false),
     (0x70, 5, false),
     (0x50, 4, false),
-    (0x80, 255, false),
+    (0x80, u8::MAX, false),
 ];
 
 #[test]
@@ -54,7 +57,7 @@ fn fields_of_a_chip(rt: HostRuntime) -> Result<(), Fail> {
 
 fn assert_puts(rt: &impl Abort, regs: &mut Regs) {
     assert!(rt; regs.chips() == 2);
-    assert_same(rt, "byte", regs.byte(1, 255), 0);
+    assert_same(rt, "byte", regs.byte(1, LAST), 0);
     regs.set_byte(1, 0x30, 0x15);
     for &(mask, shift, number, byte) in PUTS {
         assert_put(rt, regs, &field(1, 0x30, mask, shift), number);

@@ -14,6 +14,7 @@ use Rattle.board.specs.declared.rail_id.RailId.{RailId}
 use Rattle.board.specs.declared.part.Part.TheVariants.{Selector}
 use Rattle.board.specs.Table.{uv_of, values_of}
 use Rattle.board.specs.Rail.{allowed, choices, uv, is_within}
+use Rattle.chip_regs.specs.Width.{register_contents}
 use Rattle.plain_board.specs.Law.{StandsWell, Throughout}
 use Rattle.plain_board.specs.Moves.{Move, after_moves, writes_of, moves_to, field_of_move, way, selector_for, update_of_field, written}
 use Rattle.reg_outside.specs.Told.{with_more}
@@ -22,8 +23,8 @@ use Rattle.regulator_main.specs.Walk.{Makes, MovesAlone, Updates, update_of}
 use Rattle.regulator_main.proofs.Nearest.{IsFirst}
 use Rattle.regulator_main.proofs.Steps.{way-same}
 
--- a number that fits a field, at the mask's place, is a byte
-pub at_mask : (bits mask shift : ℕ) → bits ≤ mask / 2 ^ shift → mask < 256 → bits * 2 ^ shift % 256 ≡ bits * 2 ^ shift
+-- a number that fits a field, at the mask's place, fits a register
+pub at_mask : (bits mask shift : ℕ) → bits ≤ mask / 2 ^ shift → mask < register_contents → bits * 2 ^ shift % register_contents ≡ bits * 2 ^ shift
 at_mask bits mask shift fits byte =
     let below = mul-le-mul_right (2 ^ shift) fits in
     let whole = div-mul-le_self mask (2 ^ shift) in
@@ -122,8 +123,8 @@ choice_fits rail field p selector fits first =
     found_has (λ pair. FitsField field pair.0) (λ q. eqb q.1 p.1) (choices rail) p
     (fit_choices rail field rail.changeable (subst (λ (o : Option Field). IfSome o (λ f. All (λ pair. FitsField f pair.0) (values_of rail.desc.table))) selector fits)) first
 
--- a field has at most a byte's numbers
-pub fits_byte : (field : Field) (n : ℕ) → FitsField field n → field.mask < 256 → n < 256
+-- a field has at most a register's numbers
+pub fits_byte : (field : Field) (n : ℕ) → FitsField field n → field.mask < register_contents → n < register_contents
 fits_byte field n fits byte = let whole = div-le_self field.mask (2 ^ field.shift) in omega arith
 
 -- where nothing is left, all is taken

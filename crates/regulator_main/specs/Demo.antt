@@ -3,6 +3,7 @@ use Rattle.std.specs.Prelude.{ℕ, ◌≡◌, true, false, List, [], ◌∷◌, 
 use Rattle.linear_range.specs.declared.linear_range.LinearRange.{LinearRange}
 use Rattle.chip_regs.specs.declared.field.Field.{Field}
 use Rattle.chip_regs.specs.Registers.{with_byte}
+use Rattle.chip_regs.specs.Width.{chip_registers}
 use Rattle.load_modes.specs.Modes.{bits_of}
 use Rattle.board.specs.declared.board.Board.{Board}
 use Rattle.board.specs.declared.constraints.Constraints.{Constraints}
@@ -70,7 +71,7 @@ pub record IsDemo (board : Board) : Type 0 where
 
 -- the chip's registers after a reset: both its first selectors at 32, and all modes normal
 unfoldable pub demo_regs : List (List ℕ)
-demo_regs = with_byte (with_byte (with_byte (replicate 256 0 ∷ []) 0 0x10 0x20) 0 0x11 0x20) 0 0x30 0x15
+demo_regs = with_byte (with_byte (with_byte (replicate chip_registers 0 ∷ []) 0 0x10 0x20) 0 0x11 0x20) 0 0x30 0x15
 
 -- The plain board after the load. The reset leaves `core` at 800000 µV, its least value, so nothing is written.
 abbrev pub demo_plain : Plain

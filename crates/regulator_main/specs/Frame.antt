@@ -1,6 +1,7 @@
 -- The grammar of a session, line by line, and the first line at which a text leaves it.
 use Rattle.std.specs.Prelude.{ℕ, ◌≡◌, ◌≢◌, ◌^◌, ◌<◌, ◌≤◌, ◌==◌, ◌&&◌, ◌||◌, nat_le, Bool, false, List, [], ◌∷◌, ◌++◌, map, length, flat_map, codes, decimal, All, IsTrue}
 use Rattle.std.specs.List.{list_all}
+use Rattle.chip_regs.specs.Width.{chip_registers, register_contents}
 use Rattle.plain_board.specs.declared.call.Call.{Call}
 use Rattle.plain_board.specs.declared.call.Call.TheVariants.{Open, Set, Get}
 use Rattle.plain_board.specs.Text.{spaced, call_text, hex_text}
@@ -16,7 +17,7 @@ setup_text (Refusal worker update) = spaced (codes "%fault" ∷ decimal worker �
 
 -- the numbers of a setup line have their ranges
 abbrev pub IsSetup : Setup → Type 0
-IsSetup (Register chip reg value) = (chip < 2 ^ 32) × (reg < 256) × (value < 256)
+IsSetup (Register chip reg value) = (chip < 2 ^ 32) × (reg < chip_registers) × (value < register_contents)
 IsSetup (Refusal worker update) = (worker ≤ 16) × (1 ≤ update) × (update < 2 ^ 32)
 
 -- the board of a session: the built-in one, or the lines of a devicetree text

@@ -42,7 +42,7 @@ fn parse_hex_digit(byte: u8) -> Option<u8>
 /// The byte that is spelled as `0x` and these two digits.
 pub(crate) fn parse_hex(word: &[u8]) -> Option<u8>
     ensures some { IfSome result (λ n. word.now ≡ hex_text n) }
-    ensures none { IfNone result ((n : ℕ) → n < 256 → word.now ≢ hex_text n) }
+    ensures none { IfNone result ((n : ℕ) → n < 16 ^ 2 → word.now ≢ hex_text n) }
 {
     match word {
         [b'0', b'x', high, low] => {
@@ -68,7 +68,7 @@ pub(crate) fn parse_number_pair(words: &[u8]) -> Option<(u32, u32)>
 /// Two bytes in hexadecimal with a space between them.
 pub(crate) fn parse_hex_pair(words: &[u8]) -> Option<(u8, u8)>
     ensures some { IfSome result (λ n. words.now ≡ spaced (hex_text n.0 ∷ hex_text n.1 ∷ [])) }
-    ensures none { IfNone result ((m n : ℕ) → m < 256 → n < 256 → words.now ≢ spaced (hex_text m ∷ hex_text n ∷ [])) }
+    ensures none { IfNone result ((m n : ℕ) → m < 16 ^ 2 → n < 16 ^ 2 → words.now ≢ spaced (hex_text m ∷ hex_text n ∷ [])) }
 {
     let (first, second) = split_first(words, b' ')?;
     let first = parse_hex(first)?;

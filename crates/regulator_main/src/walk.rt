@@ -116,7 +116,7 @@ pub(crate) fn walk<W: Wire>(
     let mut made = 0;
     while at != target {
         let pick = toward(rail, at, target);
-        let Ok(()) = write_field(&field, pick.sel as u8, regs, wire) else {
+        let Ok(()) = write_field(&field, pick.sel as Bits, regs, wire) else {
             return Err(made);
         };
         at = pick.uv;

@@ -1,4 +1,4 @@
-use Rattle.std.proofs.Common.{◌≡◌, ◌∷◌, [], ℕ, ◌<◌, ◌/◌, ◌%◌, refl, ◌∙◌, ap, sym, take, arith}
+use Rattle.std.proofs.Common.{◌≡◌, ◌∷◌, [], ℕ, ◌<◌, ◌/◌, ◌%◌, ◌^◌, refl, ◌∙◌, ap, sym, take, arith}
 use Rattle.std.proofs.lemmas.Grind.{common_steps}
 use Rattle.std.proofs.Math.Utf8.{encode}
 use Rattle.std.proofs.lemmas.List.{append-nil, take_all, take_more, flat_map_more}
@@ -11,7 +11,7 @@ use Rattle.plain_board.proofs.text.fault_text.Goals as goal
 encode-hex_digit : (n d : ℕ) → n < 16 → d ≡ hex_digit n → encode d ≡ hex_digit n ∷ []
 encode-hex_digit n d small is = ap encode is ∙ encode_ascii (hex_digit n) (grind (arith, common_steps))
 
-high_digit : (n : ℕ) → n < 256 → n / 16 < 16
+high_digit : (n : ℕ) → n < 16 ^ 2 → n / 16 < 16
 high_digit n fits = omega arith
 
 low_digit : (n : ℕ) → n % 16 < 16
