@@ -1,1 +1,2 @@
 pub mod Ceil
+mod Worked
