@@ -5,3 +5,4 @@ pub mod Singles
 pub mod Steps
 pub mod Counts
 pub mod Listed
+mod Worked

@@ -1,16 +1,15 @@
 -- The written-out pairs of a table, and what the picks are among them.
-use Rattle.std.proofs.Common.{◌≡◌, ℕ, zero, suc, ◌+◌, ◌^◌, ◌<◌, ◌≤◌, leb, List, [], ◌∷◌, Option, None, Some, refl, subst, ◌⊎◌, inl, inr, arith}
-use Rattle.std.proofs.lemmas.Bool.{leb-true, leb-false, le-leb, cases_eq}
+use Rattle.std.proofs.Common.{◌≡◌, ℕ, zero, suc, ◌+◌, ◌^◌, ◌<◌, ◌≤◌, List, [], ◌∷◌, Option, None, Some, refl, subst, ◌⊎◌, inl, inr, arith}
+use Rattle.std.proofs.lemmas.Bool.{cases_eq}
 use Rattle.std.proofs.lemmas.List.Elements.{All-nil, All-cons, All-head, All-tail, All-weaker, All-contains}
-use Rattle.std.specs.Prelude.{MatchOption}
 use Rattle.std.specs.List.{All, AllPairs, Contains}
 use Rattle.linear_range.specs.declared.linear_range.LinearRange.{LinearRange}
 use Rattle.linear_range.specs.LinearRange.{IsSound, IsFitting}
 use Rattle.value_list.proofs.Extremes as pairs
 use Rattle.linear_range.specs.Values.{value_in, value_of, selectors_end, values}
 use Rattle.linear_range.specs.Laws.{ListsValues, SelectorsRise, IsBounded, PicksHigh, PicksLow}
-use Rattle.linear_range.proofs.Picks.{upwards, downwards, BestOf, InSegment, pairs_between}
-use Rattle.linear_range.proofs.Tables.{HasValue, in_segment, value_of-below, member_from_value_in, pick_high-best, pick_low-best}
+use Rattle.linear_range.proofs.Picks.{InSegment, pairs_between}
+use Rattle.linear_range.proofs.Tables.{HasValue, in_segment, value_of-below, member_from_value_in}
 use Rattle.linear_range.proofs.Singles.{member_high}
 use Rattle.linear_range.proofs.Faults.{all_pairs_cons}
 

@@ -1,9 +1,0 @@
-use Rattle.std.proofs.Common.{arith}
-use Rattle.std.proofs.lemmas.Grind.{common_steps}
-use Rattle.linear_range.proofs.linear_range.LinearRange.shares.Goals as goal
-
-pub returns-then-self-other : goal.returns-then-self-other
-returns-then-self-other c = grind (arith, common_steps)
-
-pub returns-else-self-other : goal.returns-else-self-other
-returns-else-self-other c = grind (arith, common_steps)
