@@ -5,6 +5,9 @@ use Rattle.load_modes.specs.Modes.{suffices, IsLowest}
 use Rattle.load_modes.proofs.Lowest.{mode_of_load-IsLowest, IsNone-mode_of_load}
 use Rattle.load_modes.proofs.mode.mode_for.Goals as goal
 
+pub returns-clause-exact : goal.returns-clause-exact
+returns-clause-exact c = c.first_that_suffices.ensures
+
 pub returns-clause-lowest : goal.returns-clause-lowest
 returns-clause-lowest c =
     subst (λ r. IfSome r (IsLowest c.args.greatest.now c.args.allowed c.args.sum)) (sym c.first_that_suffices.ensures)
