@@ -1,5 +1,5 @@
 -- picks worked out by hand from the pairs (0, 5), (1, 3), (2, 5), (3, 3)
-use Rattle.std.proofs.Common.{◌≡◌, ℕ, zero, suc, ◌<◌, List, [], ◌∷◌, Option, None, Some, ◌≤◌, get_or, refl, ap, lit<, lit≤, arith}
+use Rattle.std.proofs.Common.{◌≡◌, ℕ, zero, suc, ◌<◌, List, [], ◌∷◌, None, Some, ◌≤◌, get_or, refl, ap, lit<, lit≤, arith}
 use Rattle.std.specs.List.{Contains}
 use Rattle.value_list.specs.Picks.{lesser_pair, least_pair, greater_pair, greatest_pair, pick_high, pick_low}
 use Rattle.value_list.specs.Laws.{SelectorsRise, IsBounded, IsHighPick, IsLowPick}

@@ -6,5 +6,4 @@ ghost use Rattle.value_list.specs.Laws.{SelectorsRise, PicksHigh, PicksLow};
 pub fn picks_are_extreme()
     ensures high { (ps : List (ℕ × ℕ)) → SelectorsRise ps → PicksHigh ps }
     ensures low { (ps : List (ℕ × ℕ)) → SelectorsRise ps → PicksLow ps }
-{
-}
+{}
