@@ -1,5 +1,5 @@
 -- modes worked out by hand, for a rail that carries 3000000 µA in fast, 1000000 in normal, 50000 in idle and 5000 in standby
-use Rattle.std.proofs.Common.{ℕ, ◌≡◌, ◌<◌, ◌≤◌, true, false, List, [], ◌∷◌, None, Some, refl, lit<, lit≤, arith}
+use Rattle.std.proofs.Common.{ℕ, ◌≡◌, ◌<◌, ◌≤◌, true, false, List, [], ◌∷◌, None, Some, refl, lit<, arith}
 use Rattle.load_modes.specs.declared.mode.Mode.TheVariants.{Fast, Normal, Idle, Standby}
 use Rattle.load_modes.specs.declared.modes.Modes.{Modes}
 use Rattle.load_modes.specs.Modes.{bit_of, greatest_of, bits_of, allows, suffices, mode_of_load, power_of, IsLowest}

@@ -1,5 +1,5 @@
 -- counts of faults and content that may not be told, worked out by hand
-use Rattle.std.proofs.Common.{ℕ, ◌≡◌, ◌-◌, ◌^◌, List, [], ◌∷◌, Option, Some, None, refl, lit<, lit≤, arith}
+use Rattle.std.proofs.Common.{ℕ, ◌≡◌, ◌-◌, ◌^◌, [], ◌∷◌, Some, None, refl, lit<, lit≤, arith}
 use Rattle.reg_outside.specs.Count.{count_end, raised, RoseBy, Rose, Stayed}
 use Rattle.reg_outside.specs.Told.{with_more, with_before, IsSpent, StartsEmpty}
 

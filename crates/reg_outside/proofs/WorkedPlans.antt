@@ -1,10 +1,9 @@
 -- plans to refuse calls, and what stands in them, worked out by hand: the calls 5 and 2 are refused
-use Rattle.std.proofs.Common.{ℕ, ◌≡◌, ◌≢◌, ◌<◌, ◌≤◌, Bool, true, false, List, [], ◌∷◌, Option, Some, None, IsTrue, get_or, length, nat_eq, refl, sym, ap, ◌∙◌, arith, inl, inr, lit<, lit≤}
+use Rattle.std.proofs.Common.{ℕ, ◌≡◌, ◌≢◌, ◌≤◌, true, false, [], ◌∷◌, Some, None, nat_eq, refl, sym, ap, ◌∙◌, arith, inl, inr, lit<, lit≤}
 use Rattle.std.proofs.Math.Path.{fun_ext}
 use Rattle.std.specs.Prelude.{count_by}
 use Rattle.std.specs.List.{list_any, range_with_len}
-use Rattle.std.specs.FinSet.{contains, from_list, contains-from_list_nat}
-use Rattle.std.specs.Ordering.{nat_cmp}
+use Rattle.std.specs.FinSet.{from_list, contains-from_list_nat}
 use Rattle.std.proofs.lemmas.Bool.{ne_eqb, false≢true, cases_lt}
 use Rattle.std.proofs.lemmas.List.Sorted.{IsPermutation-reverse}
 use Rattle.reg_outside.specs.Plan.{Plan, plan_of, refuses, RefusesNext, after_a_call, RefusesNone, RefusesNoneOfNext, RefusedNone, refused_of, HasSmallNumbers, next_plan, IsPlanned, ArePlannedSmall}
