@@ -5,6 +5,7 @@ use Rattle.std.proofs.lemmas.Nat.{shl-shr}
 use Rattle.std.specs.List.{All, AllByRecursion, enumerate_from}
 use Rattle.std.proofs.lemmas.List.Elements.{All-from_recursion}
 use Rattle.chip_regs.specs.Field.{greatest_of}
+use Rattle.chip_regs.specs.Width.{register_width}
 use Rattle.board.specs.declared.table.Table.{Table}
 use Rattle.board.specs.Table.{values_of}
 use Rattle.pmic_tables.specs.declared.kind.Kind.{Kind}
@@ -16,7 +17,7 @@ use Rattle.pmic_tables.specs.Sound.{fields_of, IsIn, HoldsSelectors, IsSoundDesc
 use Rattle.pmic_tables.proofs.Exact.{HasSelectors}
 
 -- a field from bit 0 on, of so many bits
-low_in : (chip reg width : ℕ) → 0 < width → width ≤ 8 → IsIn chip (field chip reg (2 ^ width - 1) 0)
+low_in : (chip reg width : ℕ) → 0 < width → width ≤ register_width → IsIn chip (field chip reg (2 ^ width - 1) 0)
 low_in chip reg width some within = (refl, record { width = width; some_bit = some; within = omega arith; run = omega arith })
 
 bit_in : (chip first k : ℕ) → IsIn chip (bit chip first k)
@@ -26,13 +27,13 @@ modes_in : (chip k : ℕ) → k < 4 → IsIn chip (field chip 0x30 (3 * 2 ^ (2 *
 modes_in chip k few = (refl, record { width = 2; some_bit = omega arith; within = omega arith; run = refl })
 
 greatest-bit : (chip first k : ℕ) → greatest_of (bit chip first k) ≡ 1
-greatest-bit chip first k = ap (λ mask. mask / 2 ^ (k % 8)) (omega arith) ∙ shl-shr 1 (k % 8)
+greatest-bit chip first k = ap (λ mask. mask / 2 ^ (k % register_width)) (omega arith) ∙ shl-shr 1 (k % register_width)
 
 -- the table has a value for each pattern of a mask, which is a run of ones from bit 0 on
 pub record FillsMask (table : Table) (mask : ℕ) : Type 0 where
   pub width : ℕ
   pub some : 0 < width
-  pub within : width ≤ 8
+  pub within : width ≤ register_width
   pub ones : mask ≡ 2 ^ width - 1
   pub has : HasSelectors table mask
   pub listed : All (λ pair. pair.0 ≤ mask) (values_of table)

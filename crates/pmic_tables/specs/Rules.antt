@@ -1,5 +1,6 @@
 -- What follows from the place of a rail in its chip, counted from 0, and from its kind.
 use Rattle.std.specs.Prelude.{ℕ, ◌+◌, ◌*◌, ◌/◌, ◌%◌, ◌^◌, ◌<◌, List, [], ◌∷◌, Option, Some, None}
+use Rattle.chip_regs.specs.Width.{register_width}
 use Rattle.chip_regs.specs.declared.field.Field.{Field}
 use Rattle.board.specs.declared.desc.Desc.{Desc}
 use Rattle.pmic_tables.specs.declared.kind.Kind.{Kind}
@@ -10,9 +11,9 @@ use Rattle.pmic_tables.specs.Sheet.{Line}
 abbrev pub field : ℕ → ℕ → ℕ → ℕ → Field
 field chip reg mask shift = record { chip = chip; reg = reg; mask = mask; shift = shift }
 
--- a bit for each rail, eight to a register from `first` on
+-- a bit for each rail, as many to a register as it has bits, from `first` on
 abbrev pub bit : ℕ → ℕ → ℕ → Field
-bit chip first k = field chip (first + k / 8) (2 ^ (k % 8)) (k % 8)
+bit chip first k = field chip (first + k / register_width) (2 ^ (k % register_width)) (k % register_width)
 
 -- the mode of a buck: two bits for each rail
 abbrev pub modes_of : ℕ → ℕ → Kind → Option Field

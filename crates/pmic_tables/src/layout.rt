@@ -2,7 +2,7 @@ use crate::chip_desc::{ChipDesc, ChipRail};
 use crate::kind::Kind;
 use crate::row::Row;
 use board::{Desc, Name};
-use chip_regs::{Bits, Field};
+use chip_regs::{Bits, Field, WIDTH};
 use item_list::Items;
 use std::alloc::{AllocError, Global};
 
@@ -87,10 +87,11 @@ impl Layout {
         requires { first < 64 }
         ensures { result ≡ bit self.now.number first place }
     {
-        let shift = place % 8;
+        let width = WIDTH as u8;
+        let shift = place % width;
         Field {
             chip: self.number,
-            reg: first + place / 8,
+            reg: first + place / width,
             mask: 1 << shift,
             shift,
         }

@@ -1,10 +1,11 @@
 use Rattle.std.proofs.Common.{◌≡◌, ℕ, ◌*◌, ◌%◌, ◌^◌, ◌<◌, arith, refl}
 use Rattle.std.proofs.lemmas.Nat.{shl_whole}
+use Rattle.chip_regs.specs.Width.{register_contents, register_width}
 use Rattle.pmic_tables.proofs.layout.Layout.modes.Goals as goal
 
 -- the two bits of one of four rails stay within the register
-mode_mask : (k : ℕ) → k < 4 → 3 * 2 ^ (2 * k) % 256 ≡ 3 * 2 ^ (2 * k)
-mode_mask k few = shl_whole 3 2 (2 * k) 8 (omega arith) (omega arith)
+mode_mask : (k : ℕ) → k < 4 → 3 * 2 ^ (2 * k) % register_contents ≡ 3 * 2 ^ (2 * k)
+mode_mask k few = shl_whole 3 2 (2 * k) register_width (omega arith) (omega arith)
 
 pub returns-in-Buck : goal.returns-in-Buck
 returns-in-Buck c =
