@@ -1,5 +1,8 @@
+pub mod Apart
 pub mod Best
+pub mod BoardGraph
 pub mod Choices
+pub mod Exact
 pub mod Lists
 pub mod Lone
 pub mod Nearest

@@ -1,21 +1,21 @@
 -- A board of one rail that is sound is valid.
-use Rattle.std.proofs.Common.{◌≡◌, ◌≢◌, ◌⊎◌, inl, inr, ℕ, zero, suc, ◌<◌, Bool, true, false, ◌&&◌, List, [], ◌∷◌, Some, refl, sym, ap, subst, ◌∙◌, arith, length, take}
-use Rattle.std.specs.Prelude.{All, Contains, slice_get, IfSome, flat_map}
+use Rattle.std.proofs.Common.{◌≡◌, ◌≢◌, ◌⊎◌, inl, inr, ℕ, zero, suc, ◌<◌, Bool, true, false, ◌&&◌, List, [], ◌∷◌, Some, refl, sym, ap, subst, ◌∙◌, arith, length}
+use Rattle.std.specs.Prelude.{All, slice_get, IfSome}
 use Rattle.std.specs.Option.{option_and_then}
 use Rattle.std.proofs.lemmas.List.Elements.{All-nil, All-cons}
 use Rattle.chip_regs.specs.declared.field.Field.{Field}
 use Rattle.chip_regs.specs.Field.{SharesBit}
 use Rattle.board_graph.specs.declared.graph.Graph.{Graph}
 use Rattle.board_graph.specs.Ways.{IsWay}
-use Rattle.board_graph.specs.Graph.{Supplies, IsAbove, IsIn, AreCoupled, members}
-use Rattle.board_graph.specs.Order.{IsNext, IsOrder}
+use Rattle.board_graph.specs.Graph.{Supplies, IsAbove, IsIn, AreCoupled}
+use Rattle.board_graph.specs.Order.{IsOrder}
 use Rattle.board.specs.declared.board.Board.{Board}
 use Rattle.board.specs.declared.part.Part.{Part}
 use Rattle.board.specs.declared.rail.Rail.{Rail}
 use Rattle.board.specs.Rail.{part_field}
 use Rattle.board.specs.Gaps.{HasNarrowGaps}
 use Rattle.board.specs.Lone.{lone_graph, IsLone}
-use Rattle.board.specs.Valid.{IsSoundRail, IsGraphOf, IsPrinted, HasNames, IsValid}
+use Rattle.board.specs.Valid.{IsSoundRail, CarriesSystemLoad, IsGraphOf, IsPrinted, HasNames, IsSoundBoard, IsValid}
 
 none_supplies : (upper lower : ℕ) → Supplies lone_graph upper lower → ⊥
 none_supplies upper zero is = cc
@@ -37,30 +37,11 @@ none_coupled a b coupled =
     let block = coupled.block in
     coupled.apart (only_one block.group a block.first ∙ sym (only_one block.group b block.second))
 
-in_none : (r : ℕ) → Contains [] r → ⊥
-in_none r here = absurd (omega (arith, here.1))
-
-next_first : (group : ℕ) → 0 ≡ group → IsNext lone_graph [] group
-next_first group is = record {
-  least = 0;
-  in_group = ap Some is;
-  ready = record {
-    rail = omega arith;
-    left = in_none 0;
-    supplied = λ lower upper block supplies. absurd (none_supplies upper lower supplies);
-  };
-  before = λ r under. absurd (omega arith);
-}
-
-next_lone : (k group : ℕ) → slice_get (0 ∷ []) k ≡ Some group → IsNext lone_graph (flat_map (members lone_graph) (take k (0 ∷ []))) group
-next_lone zero group is = let e : 0 ≡ group = cc in next_first group e
-next_lone (suc k) group is = absurd (cc)
-
 order_lone : IsOrder lone_graph (0 ∷ [])
 order_lone = record {
   groups = 0 ∷ [];
   blocks = refl;
-  next = next_lone;
+  turns = (refl, tt);
   all = λ r under. let e : 0 ≡ r = omega arith in (0, omega arith, e);
 }
 
@@ -109,8 +90,8 @@ module _ (board : Board) (lone : IsLone board) where
     spreads = λ spread binds. absurd (none_coupled r binds.other (subst (λ (g : Graph). AreCoupled g r binds.other) lone.graph binds.coupled));
   }
 
-  pub lone_valid : IsValid board
-  lone_valid = record {
+  sound_lone : IsSoundBoard board
+  sound_lone = record {
     some = rw lone.rails (omega arith);
     few = rw lone.rails (omega arith);
     rails = all_rails (IsSoundRail board.chips) lone.sound;
@@ -123,5 +104,11 @@ module _ (board : Board) (lone : IsLone board) where
         apart_lone r s part other f g ne
         (ap (λ rails. option_and_then (part_field part) (slice_get rails r)) (sym lone.rails) ∙ first)
         (ap (λ rails. option_and_then (part_field other) (slice_get rails s)) (sym lone.rails) ∙ second);
+  }
+
+  pub lone_valid : IsValid board
+  lone_valid = record {
+    sound = sound_lone;
+    loads = all_rails CarriesSystemLoad lone.load;
     gaps = λ r rail place _. gaps_lone r rail (place_of r rail place).1;
   }

@@ -1,5 +1,6 @@
-pub mod Rail
 pub mod Table
+pub mod Desc
+pub mod Rail
 pub mod Fields
 pub mod Gaps
 pub mod Valid

@@ -7,17 +7,18 @@ use Rattle.board.specs.declared.board.Board.{Board}
 use Rattle.board.specs.declared.part.Part.{Part}
 use Rattle.board.specs.declared.rail.Rail.{Rail}
 use Rattle.board.specs.Rail.{part_field}
-use Rattle.board.specs.Valid.{IsSoundRail, IsPrinted}
+use Rattle.board.specs.Valid.{IsSoundRail, CarriesSystemLoad, IsPrinted}
 
 -- one rail without a supply, which is coupled with none
 abbrev pub lone_graph : Graph
 lone_graph = record { supply = None ∷ []; group = 0 ∷ []; link = false ∷ [] }
 
--- one rail that is sound, has no supply and no greatest step, and whose fields share no bit
+-- one rail that is sound and carries its load, has no supply and no greatest step, and whose fields share no bit
 pub record IsLone (board : Board) : Type 0 where
   pub rail : Rail
   pub rails : board.rails ≡ rail ∷ []
   pub sound : IsSoundRail board.chips rail
+  pub load : CarriesSystemLoad rail
   pub printed : All IsPrinted rail.name.bytes
   pub apart : (part other : Part) (f g : Field) → part ≢ other → part_field part rail ≡ Some f → part_field other rail ≡ Some g → ¬ SharesBit f g
   pub supply : rail.supply ≡ None

@@ -1,12 +1,14 @@
 -- What the registers say of a rail, and which values it may stand at.
-use Rattle.std.specs.Prelude.{ℕ, Bool, ◌&&◌, ◌==◌, true, List, [], ◌∷◌, map, filter, Option, Some, None, unwrap_or, nat_eq, nat_le, IsTrue, if◌then◌else◌}
+use Rattle.std.specs.Prelude.{ℕ, Bool, ◌&&◌, ◌==◌, true, List, [], ◌∷◌, map, filter, Option, Some, None, unwrap_or, slice_get, nat_eq, nat_le, IsTrue, if◌then◌else◌}
 use Rattle.std.specs.List.{list_any}
-use Rattle.std.specs.Option.{is_some}
+use Rattle.std.specs.Option.{is_some, option_map_or}
 use Rattle.chip_regs.specs.declared.field.Field.{Field}
 use Rattle.chip_regs.specs.Registers.{field_of}
+use Rattle.load_modes.specs.declared.mode.Mode.{Mode}
+use Rattle.load_modes.specs.declared.mode.Mode.TheVariants.{Fast, Normal, Idle, Standby}
 use Rattle.board.specs.declared.part.Part.{Part}
-use Rattle.board.specs.declared.part.Part.TheVariants.{Selector, Enable, ModePart, SuspendEnable, SuspendSelector}
 use Rattle.board.specs.declared.rail.Rail.{Rail}
+use Rattle.board.specs.Desc.{described_field}
 use Rattle.board.specs.Table.{uv_of, values_of}
 
 -- a value lies within bounds, where any are given
@@ -53,13 +55,17 @@ uv rail regs = told_uv rail regs rail.desc.selector
 abbrev pub is_on : Rail → List (List ℕ) → Bool
 is_on rail regs = field_of regs rail.desc.enable == 1
 
+-- the modes, by the numbers of a mode field
+abbrev pub mode_numbered : ℕ → Mode
+mode_numbered n = unwrap_or (slice_get (Fast ∷ Normal ∷ Idle ∷ Standby ∷ []) n) Normal
+
+-- the mode that the rail is in: the one that its mode field tells, and normal where it has none
+abbrev pub mode : Rail → List (List ℕ) → Mode
+mode rail regs = option_map_or (λ field. mode_numbered (field_of regs field)) rail.desc.modes Normal
+
 -- the field of a part, where the rail has one
 abbrev pub part_field : Part → Rail → Option Field
-part_field Selector rail = rail.desc.selector
-part_field Enable rail = Some rail.desc.enable
-part_field ModePart rail = rail.desc.modes
-part_field SuspendEnable rail = rail.desc.suspend_enable
-part_field SuspendSelector rail = rail.desc.suspend_selector
+part_field part rail = described_field part rail.desc
 
 -- consumers' loads choose the rail's mode: it was asked for, and the rail has modes
 abbrev pub counts_loads : Rail → Bool

@@ -1,17 +1,18 @@
 -- Which boards are sound in themselves.
-use Rattle.std.specs.Prelude.{ℕ, Bool, ◌≡◌, ◌≢◌, ◌-◌, ◌^◌, ◌<◌, ◌≤◌, ◌⊎◌, ◌&&◌, not, ◌==◌, nat_lt, true, false, [], map, length, slice_get, All, AllPairs, Option, None, Some, IfSome, IsSome}
+use Rattle.std.specs.Prelude.{ℕ, Bool, ◌≡◌, ◌≢◌, ◌<◌, ◌≤◌, ◌⊎◌, ◌&&◌, not, ◌==◌, nat_lt, true, false, [], map, length, slice_get, All, AllPairs, Option, None, Some, IfSome, IsSome}
 use Rattle.std.specs.Option.{option_map, option_and_then}
 use Rattle.chip_regs.specs.declared.field.Field.{Field}
-use Rattle.chip_regs.specs.Field.{IsField, FitsField, SharesBit, greatest_of}
+use Rattle.chip_regs.specs.Field.{FitsField, SharesBit}
 use Rattle.load_modes.specs.Modes.{mode_of_load}
-use Rattle.board_graph.specs.Graph.{IsAbove, AreCoupled}
+use Rattle.board_graph.specs.Graph.{IsRailCount, IsAbove, AreCoupled}
 use Rattle.board_graph.specs.Order.{IsOrder}
 use Rattle.board.specs.declared.board.Board.{Board}
 use Rattle.board.specs.declared.part.Part.{Part}
 use Rattle.board.specs.declared.rail.Rail.{Rail}
 use Rattle.board.specs.declared.sleep.Sleep.{Sleep}
-use Rattle.board.specs.Table.{uv_of, values_of}
-use Rattle.board.specs.Rail.{allowed, part_field, counts_loads}
+use Rattle.board.specs.Table.{uv_of}
+use Rattle.board.specs.Desc.{IsSoundDesc}
+use Rattle.board.specs.Rail.{allowed, counts_loads}
 use Rattle.board.specs.Fields.{field_at}
 use Rattle.board.specs.Gaps.{HasNarrowGaps}
 
@@ -19,21 +20,6 @@ use Rattle.board.specs.Gaps.{HasNarrowGaps}
 abbrev pub is_span : Option (ℕ × ℕ) → Bool
 is_span None = false
 is_span (Some bounds) = nat_lt bounds.0 bounds.1
-
--- a field lies in a chip of the board
-pub record IsPlaced (chips : ℕ) (field : Field) : Type 0 where
-  pub shape : IsField field
-  pub chip : field.chip < chips
-
--- a field of so many bits
-abbrev pub HasBits : ℕ → Field → Type 0
-HasBits n field = greatest_of field ≡ 2 ^ n - 1
-
--- the on bits are one bit each, and the mode two
-pub record HasWidths (rail : Rail) : Type 0 where
-  pub enable : HasBits 1 rail.desc.enable
-  pub suspend_enable : IfSome rail.desc.suspend_enable (HasBits 1)
-  pub modes : IfSome rail.desc.modes (HasBits 2)
 
 -- some selector that fits the field has the value
 pub record HasSelector (rail : Rail) (field : Field) (uv : ℕ) : Type 0 where
@@ -48,24 +34,21 @@ SleepsWell rail sleep =
 
 -- what holds of a rail by itself, on a board of so many chips
 pub record IsSoundRail (chips : ℕ) (rail : Rail) : Type 0 where
+  -- its description is sound
+  pub desc : IsSoundDesc chips rail.desc
   -- it is marked changeable exactly where its bounds leave it room
   pub changeable : rail.changeable ≡ is_span rail.limits.bounds
-  -- each of its fields is one run of bits in a chip of the board
-  pub placed : (part : Part) → IfSome (part_field part rail) (IsPlaced chips)
-  -- every number in its selector field is a selector with a value
-  pub patterns : IfSome rail.desc.selector (λ field. (n : ℕ) → FitsField field n → IsSome (uv_of rail.desc.table n))
-  -- every selector with a value fits that field
-  pub selectors : IfSome rail.desc.selector (λ field. All (λ pair. FitsField field pair.0) (values_of rail.desc.table))
-  -- without that field its value never changes
+  -- without a selector field its value never changes
   pub moves : rail.changeable ≡ true → IsSome rail.desc.selector
-  -- its other fields are as wide as what they hold
-  pub widths : HasWidths rail
   -- each value that it is to have in a sleep has a selector that fits
   pub sleeps : All (SleepsWell rail) rail.limits.sleeps
   -- there is a value that it may stand at
   pub some_value : allowed rail ≢ []
-  -- if it counts loads, an allowed mode carries its system load
-  pub loads : counts_loads rail ≡ true → IsSome (mode_of_load rail.desc.greatest rail.limits.allowed rail.limits.system_load)
+
+-- if the rail counts loads, an allowed mode carries its system load
+abbrev pub CarriesSystemLoad : Rail → Type 0
+CarriesSystemLoad rail =
+    counts_loads rail ≡ true → IsSome (mode_of_load rail.desc.greatest rail.limits.allowed rail.limits.system_load)
 
 -- the supply's number
 abbrev pub supply_of : Rail → Option ℕ
@@ -96,11 +79,12 @@ pub record HasNames (board : Board) : Type 0 where
   pub differ : AllPairs (λ a b. a.name.bytes ≢ b.name.bytes) board.rails
   pub printed : All (λ rail. All IsPrinted rail.name.bytes) board.rails
 
--- what holds of a board by itself; all that works on a board rests on it
-pub record IsValid (board : Board) : Type 0 where
-  -- there is a rail, and each has a number of 16 bits
+-- what holds of every board that was loaded, whatever its loads and its gaps
+pub record IsSoundBoard (board : Board) : Type 0 where
+  -- there is a rail
   pub some : 0 < length board.rails
-  pub few : length board.rails ≤ 65535
+  -- each rail has a number
+  pub few : IsRailCount (length board.rails)
   -- each rail is sound
   pub rails : All (IsSoundRail board.chips) board.rails
   -- the graph is that of the rails
@@ -116,5 +100,12 @@ pub record IsValid (board : Board) : Type 0 where
   -- no bit of a register is in two fields
   pub apart : (r s : ℕ) (part other : Part) (f g : Field) → (r ≢ s) ⊎ (part ≢ other)
       → field_at board r part ≡ Some f → field_at board s other ≡ Some g → ¬ SharesBit f g
+
+-- what holds of a board by itself; all that works on a board rests on it
+pub record IsValid (board : Board) : Type 0 where
+  -- it is sound
+  pub sound : IsSoundBoard board
+  -- each rail carries the load that no consumer tells
+  pub loads : All CarriesSystemLoad board.rails
   -- a changeable rail reaches each of its values by steps that its limits allow
   pub gaps : (r : ℕ) (rail : Rail) → slice_get board.rails r ≡ Some rail → rail.changeable ≡ true → HasNarrowGaps board r rail

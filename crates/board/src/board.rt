@@ -21,11 +21,11 @@ pub struct Board {
 }
 
 impl Board {
-    ghost use Rattle.std.specs.Prelude.{◌≡◌, ◌<◌, length, nat_eq, slice_get, Some, option_map, All, MatchOption};
+    ghost use Rattle.std.specs.Prelude.{◌≡◌, ◌<◌, length, nat_eq, slice_get, Some, option_map, All, IfSome, MatchOption};
     ghost use Rattle.std.specs.List.{list_any};
     ghost use Rattle.linear_range.specs.Pick.{pair_of};
     ghost use Rattle.linear_range.specs.Values.{pick_high, pick_low};
-    ghost use Rattle.board.specs.Fields.{field_at, choices_at, allowed_at, IsLeastAbove, IsGreatestBelow};
+    ghost use Rattle.board.specs.Fields.{field_at, choices_at, allowed_at, HasValueAt, IsLeastAbove, IsGreatestBelow};
 
     /// Whether the rail may stand at `uv` µV: at a value of its table within its bounds, or, where
     /// it isn't changeable, at the one value that it has.
@@ -37,21 +37,23 @@ impl Board {
     }
 
     /// The nearest allowed value not below `uv` µV, at its first selector; `None` exactly where
-    /// every allowed value is below.
+    /// every allowed value is below. Of a rail that can't change the selector is 0 and tells nothing.
     pub fn at_or_above(&self, r: RailId, uv: u32) -> Option<Pick>
         requires rail { r.0 < length self.now.rails }
         ensures pick { option_map pair_of result ≡ pick_high (choices_at self.now r.0) uv }
         ensures nearest { MatchOption result (All (λ value. value < uv) (allowed_at self.now r.0)) (λ pick. IsLeastAbove (allowed_at self.now r.0) uv pick.uv) }
+        ensures value { IfSome result (λ pick. HasValueAt self.now r.0 pick.sel pick.uv) }
     {
         self.rail(r).at_or_above(uv)
     }
 
     /// The nearest allowed value not above `uv` µV, at its first selector; `None` exactly where
-    /// every allowed value is above.
+    /// every allowed value is above. Of a rail that can't change the selector is 0 and tells nothing.
     pub fn at_or_below(&self, r: RailId, uv: u32) -> Option<Pick>
         requires rail { r.0 < length self.now.rails }
         ensures pick { option_map pair_of result ≡ pick_low (choices_at self.now r.0) uv }
         ensures nearest { MatchOption result (All (λ value. uv < value) (allowed_at self.now r.0)) (λ pick. IsGreatestBelow (allowed_at self.now r.0) uv pick.uv) }
+        ensures value { IfSome result (λ pick. HasValueAt self.now r.0 pick.sel pick.uv) }
     {
         self.rail(r).at_or_below(uv)
     }

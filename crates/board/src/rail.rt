@@ -1,14 +1,16 @@
 ghost use Rattle.std.specs.Prelude.{◌≡◌, nat_le, option_map};
 ghost use Rattle.linear_range.specs.Pick.{pair_of};
 ghost use Rattle.board.specs.Table.{passing};
+ghost use Rattle.board.specs.Rail.{mode_numbered};
 
 use crate::constraints::Constraints;
 use crate::desc::Desc;
 use crate::names::Name;
 use crate::part::Part;
 use crate::rail_id::RailId;
-use chip_regs::{Field, Regs};
+use chip_regs::{Bits, Field, Regs};
 use linear_range::Pick;
+use load_modes::Mode;
 
 /// A rail: how its chip makes it, what the board asks of it, and the rail that supplies it.
 #[derive(Drop)]
@@ -32,14 +34,13 @@ impl Rail {
     ghost use Rattle.std.specs.List.{list_any};
     ghost use Rattle.linear_range.specs.Values.{pick_high, pick_low};
     ghost use Rattle.linear_range.specs.Pick.{pair_of};
-    ghost use Rattle.chip_regs.specs.Registers.{HasChip};
     ghost use Rattle.board.specs.Table.{uv_of};
-    ghost use Rattle.board.specs.Rail.{uv, is_on, is_within, choices, allowed, least as least_of, part_field};
-    ghost use Rattle.board.specs.Valid.{IsSoundRail};
+    ghost use Rattle.board.specs.Desc.{ArePlaced};
+    ghost use Rattle.board.specs.Rail.{uv, is_on, mode, is_within, choices, allowed, least as least_of, part_field};
 
     /// Where the rail stands, in µV.
     pub fn uv(&self, regs: &Regs) -> u32
-        requires sound { IsSoundRail (length regs.now) self.now }
+        requires { ArePlaced (length regs.now) self.now.desc }
         ensures { result ≡ uv self.now regs.now }
     {
         match &self.desc.selector {
@@ -53,13 +54,25 @@ impl Rail {
 
     /// Whether the rail is on.
     pub fn is_on(&self, regs: &Regs) -> bool
-        requires sound { IsSoundRail (length regs.now) self.now }
+        requires { ArePlaced (length regs.now) self.now.desc }
         ensures { result ≡ is_on self.now regs.now }
     {
         regs.get(&self.desc.enable) == 1
     }
 
-    /// The nearest allowed value not below `uv` µV, at its first selector.
+    /// The mode that the rail is in; a rail without a mode field is in the normal one.
+    pub fn mode(&self, regs: &Regs) -> Mode
+        requires { ArePlaced (length regs.now) self.now.desc }
+        ensures { result ≡ mode self.now regs.now }
+    {
+        match &self.desc.modes {
+            None => Mode::Normal,
+            Some(field) => mode_numbered(regs.get(field)),
+        }
+    }
+
+    /// The nearest allowed value not below `uv` µV, at its first selector. Of a rail that can't change
+    /// the selector is 0 and tells nothing.
     pub fn at_or_above(&self, uv: u32) -> Option<Pick>
         ensures pick { option_map pair_of result ≡ pick_high (choices self.now) uv }
         ensures value { IfSome result (λ pick. self.now.changeable ≡ true → uv_of self.now.desc.table pick.sel ≡ Some pick.uv) }
@@ -73,7 +86,8 @@ impl Rail {
         }
     }
 
-    /// The nearest allowed value not above `uv` µV, at its first selector.
+    /// The nearest allowed value not above `uv` µV, at its first selector. Of a rail that can't change
+    /// the selector is 0 and tells nothing.
     pub fn at_or_below(&self, uv: u32) -> Option<Pick>
         ensures pick { option_map pair_of result ≡ pick_low (choices self.now) uv }
         ensures value { IfSome result (λ pick. self.now.changeable ≡ true → uv_of self.now.desc.table pick.sel ≡ Some pick.uv) }
@@ -126,6 +140,18 @@ impl Rail {
             sel: 0,
             uv: self.kept_uv,
         }
+    }
+}
+
+/// The mode of a number in a mode field.
+fn mode_numbered(number: Bits) -> Mode
+    ensures { result ≡ mode_numbered number }
+{
+    match number {
+        0 => Mode::Fast,
+        2 => Mode::Idle,
+        3 => Mode::Standby,
+        _ => Mode::Normal,
     }
 }
 

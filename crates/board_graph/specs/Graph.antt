@@ -1,5 +1,5 @@
 -- How the rails of a board supply each other, and which move together.
-use Rattle.std.specs.Prelude.{ℕ, ◌≡◌, ◌≢◌, ◌<◌, ◌≤◌, ◌==◌, List, map, filter, length, All, slice_get, Some, IfSome}
+use Rattle.std.specs.Prelude.{ℕ, ◌≡◌, ◌≢◌, ◌<◌, ◌≤◌, ◌==◌, List, map, filter, length, All, Option, Some, slice_get, IfSome, option_and_then}
 use Rattle.std.specs.List.{enumerate_from}
 use Rattle.board_graph.specs.declared.graph.Graph.{Graph}
 use Rattle.board_graph.specs.Ways.{Leads}
@@ -8,16 +8,24 @@ use Rattle.board_graph.specs.Ways.{Leads}
 abbrev pub count_of : Graph → ℕ
 count_of graph = length graph.group
 
--- each list has an entry a rail, rails have numbers of 16 bits, and each supply is a rail
+-- so few rails that each has a number of 16 bits, and so has their count
+abbrev pub IsRailCount : ℕ → Type 0
+IsRailCount count = count ≤ 65535
+
+-- each list has an entry a rail, rails have numbers, and each supply is a rail
 pub record IsGraph (graph : Graph) : Type 0 where
   pub supplies : length graph.supply ≡ count_of graph
   pub links : length graph.link ≡ count_of graph
-  pub few : count_of graph ≤ 65535
+  pub few : IsRailCount (count_of graph)
   pub rails : All (λ supply. IfSome supply (λ s. s < count_of graph)) graph.supply
+
+-- the supply of a rail, where it has one
+abbrev pub supply_at : Graph → ℕ → Option ℕ
+supply_at graph r = option_and_then (λ supply. supply) (slice_get graph.supply r)
 
 -- the first rail is the supply of the second
 abbrev pub Supplies : Graph → ℕ → ℕ → Type 0
-Supplies graph upper lower = slice_get graph.supply lower ≡ Some (Some upper)
+Supplies graph upper lower = supply_at graph lower ≡ Some upper
 
 -- the first rail is the supply of the second, or a supply further up
 abbrev pub IsAbove : Graph → ℕ → ℕ → Type 0

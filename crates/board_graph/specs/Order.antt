@@ -1,20 +1,31 @@
 -- The order in which the rails of a board come up.
-use Rattle.std.specs.Prelude.{ℕ, ◌≡◌, ◌<◌, List, take, slice_get, Some, flat_map, Contains}
+use Rattle.std.specs.Prelude.{ℕ, ◌≡◌, ◌<◌, Bool, true, not, ◌&&◌, nat_eq, List, [], ◌∷◌, ◌++◌, Option, Some, option_map, find, flat_map, Contains}
+use Rattle.std.specs.List.{list_any, list_all, enumerate_from}
+use Rattle.std.specs.Option.{option_map_or}
 use Rattle.board_graph.specs.declared.graph.Graph.{Graph}
-use Rattle.board_graph.specs.Graph.{count_of, Supplies, AreOneBlock, members}
+use Rattle.board_graph.specs.Graph.{count_of, supply_at, members}
 
--- a rail that isn't taken, and whose block may be: each supply of the block's rails is taken
-pub record IsReady (graph : Graph) (taken : List ℕ) (r : ℕ) : Type 0 where
-  pub rail : r < count_of graph
-  pub left : ¬ Contains taken r
-  pub supplied : (lower upper : ℕ) → AreOneBlock graph r lower → Supplies graph upper lower → Contains taken upper
+-- the rail is among those that are taken
+abbrev pub is_taken : List ℕ → ℕ → Bool
+is_taken taken r = list_any (nat_eq r) taken
 
--- the least rail that is ready, and the group of it
-pub record IsNext (graph : Graph) (taken : List ℕ) (group : ℕ) : Type 0 where
-  pub least : ℕ
-  pub in_group : slice_get graph.group least ≡ Some group
-  pub ready : IsReady graph taken least
-  pub before : (r : ℕ) → r < least → ¬ IsReady graph taken r
+-- the rail's supply is taken, where it has one
+abbrev pub is_supplied : Graph → List ℕ → ℕ → Bool
+is_supplied graph taken r = option_map_or (is_taken taken) (supply_at graph r) true
+
+-- a rail, given with its group, may come next: it isn't taken, and the supplies of all rails of the group are
+abbrev pub is_ready : Graph → List ℕ → ℕ × ℕ → Bool
+is_ready graph taken rail = not (is_taken taken rail.0) && list_all (is_supplied graph taken) (members graph rail.1)
+
+-- the group that comes next: that of the least rail that may
+abbrev pub next_group : Graph → List ℕ → Option ℕ
+next_group graph taken = option_map (λ p. p.1) (find (is_ready graph taken) (enumerate_from 0 graph.group))
+
+-- once these rails are taken, the groups come one after another
+abbrev pub ComeInTurn : Graph → List ℕ → List ℕ → Type 0
+ComeInTurn graph taken [] = Unit {0}
+ComeInTurn graph taken (group ∷ groups) =
+    (next_group graph taken ≡ Some group) × ComeInTurn graph (taken ++ members graph group) groups
 
 -- The rails block by block, those of a block by rising numbers. Of the blocks whose supplies are
 -- all taken the next one is that with the least rail, until all rails are taken.
@@ -22,5 +33,5 @@ pub record IsNext (graph : Graph) (taken : List ℕ) (group : ℕ) : Type 0 wher
 pub record IsOrder (graph : Graph) (order : List ℕ) : Type 0 where
   pub groups : List ℕ
   pub blocks : order ≡ flat_map (members graph) groups
-  pub next : (k group : ℕ) → slice_get groups k ≡ Some group → IsNext graph (flat_map (members graph) (take k groups)) group
+  pub turns : ComeInTurn graph [] groups
   pub all : (r : ℕ) → r < count_of graph → Contains order r

@@ -3,17 +3,18 @@ use Rattle.std.specs.Prelude.{◌≡◌, true, false, [], ◌∷◌, ◌++◌, c
 use Rattle.std.specs.Fmt.{digits}
 use Rattle.std.proofs.Common.{refl}
 use Rattle.arrayvec.specs.ArrayString.{ArrayString}
+use Rattle.load_modes.specs.declared.mode.Mode.TheVariants.{Fast, Normal, Idle, Standby}
 use Rattle.board.specs.declared.board.Board.{Board}
 use Rattle.board.specs.declared.rail.Rail.{Rail}
 use Rattle.board.specs.declared.rail_id.RailId.{RailId}
-use Rattle.board.specs.Rail.{uv, is_on}
+use Rattle.board.specs.Rail.{uv, is_on, mode}
 use Rattle.plain_board.specs.declared.answer.Answer.TheVariants.{Ok, OkSet, OkUv, BadRange, NoValue, NoHandle, Fault}
 use Rattle.plain_board.specs.declared.call.Call.TheVariants.{Open, Set, Get}
 use Rattle.plain_board.specs.declared.handle_row.HandleRow.{HandleRow}
 use Rattle.plain_board.specs.declared.plain.Plain.{Plain}
 use Rattle.plain_board.specs.declared.row.Row.{Row}
 use Rattle.plain_board.specs.Counts.{enables, use_count, votes}
-use Rattle.plain_board.specs.Text.{rail_name, call_text, answer_text, row_text, rail_text, summary_text}
+use Rattle.plain_board.specs.Text.{rail_name, call_text, answer_text, row_text, mode_text, rail_text, summary_text}
 
 -- the first rail of a board, here of the name core
 abbrev first : RailId
@@ -74,18 +75,31 @@ fault_after_one : (board : Board) → rail_name board first ≡ codes "core"
 unfolding digits
 fault_after_one board is_core = rw is_core refl
 
--- a rail that is off, and one that is on
+-- a rail that is off, and one that is on, in another mode
 off : (board : Board) (plain : Plain) (rail : Rail) → rail.name.bytes ≡ codes "core" → is_on rail plain.regs ≡ false
-    → uv rail plain.regs ≡ 800000 → use_count board plain 0 ≡ 0 → enables plain 0 ≡ 0
+    → uv rail plain.regs ≡ 800000 → mode rail plain.regs ≡ Normal → use_count board plain 0 ≡ 0 → enables plain 0 ≡ 0
     → rail_text board plain (0, rail) ≡ codes "rail core off 800000 normal use 0 enables 0" ++ 10 ∷ []
 unfolding digits
-off board plain rail is_core is_off at used enabled = rw (is_core, is_off, at, used, enabled) refl
+off board plain rail is_core is_off at normal used enabled = rw (is_core, is_off, at, normal, used, enabled) refl
 
 on : (board : Board) (plain : Plain) (rail : Rail) → rail.name.bytes ≡ codes "core" → is_on rail plain.regs ≡ true
-    → uv rail plain.regs ≡ 800000 → use_count board plain 0 ≡ 2 → enables plain 0 ≡ 1
-    → rail_text board plain (0, rail) ≡ codes "rail core on 800000 normal use 2 enables 1" ++ 10 ∷ []
+    → uv rail plain.regs ≡ 800000 → mode rail plain.regs ≡ Idle → use_count board plain 0 ≡ 2 → enables plain 0 ≡ 1
+    → rail_text board plain (0, rail) ≡ codes "rail core on 800000 idle use 2 enables 1" ++ 10 ∷ []
 unfolding digits
-on board plain rail is_core is_on at used enabled = rw (is_core, is_on, at, used, enabled) refl
+on board plain rail is_core is_on at idle used enabled = rw (is_core, is_on, at, idle, used, enabled) refl
+
+-- each mode
+fast : mode_text Fast ≡ codes "fast"
+fast = refl
+
+normal : mode_text Normal ≡ codes "normal"
+normal = refl
+
+idle : mode_text Idle ≡ codes "idle"
+idle = refl
+
+standby : mode_text Standby ≡ codes "standby"
+standby = refl
 
 -- the last line
 done : (board : Board) (plain : Plain) → board.rails ≡ [] → summary_text board plain 1 24 ≡ codes "done 1 24" ++ 10 ∷ []

@@ -1,10 +1,12 @@
 -- The text of rows and of the summary.
 use Rattle.std.specs.Prelude.{ℕ, ◌+◌, ◌/◌, ◌%◌, ◌<◌, nat_lt, All, List, [], ◌∷◌, ◌++◌, codes, decimal, flat_map, length, slice_get, Option, Some, None, if◌then◌else◌}
 use Rattle.std.specs.List.{enumerate_from, join_with_byte}
+use Rattle.load_modes.specs.declared.mode.Mode.{Mode}
+use Rattle.load_modes.specs.declared.mode.Mode.TheVariants.{Fast, Normal, Idle, Standby}
 use Rattle.board.specs.declared.board.Board.{Board}
 use Rattle.board.specs.declared.rail.Rail.{Rail}
 use Rattle.board.specs.declared.rail_id.RailId.{RailId}
-use Rattle.board.specs.Rail.{uv, is_on}
+use Rattle.board.specs.Rail.{uv, is_on, mode}
 use Rattle.plain_board.specs.declared.answer.Answer.{Answer}
 use Rattle.plain_board.specs.declared.answer.Answer.TheVariants.{Ok, OkSet, OkUv, BadRange, NoValue, NoHandle, Fault}
 use Rattle.plain_board.specs.declared.call.Call.{Call}
@@ -64,11 +66,18 @@ abbrev pub row_text : Board → Row → List ℕ
 row_text board row =
     ended (spaced (decimal row.worker ∷ decimal row.line ∷ call_text (rail_name board) row.call ∷ codes "->" ∷ answer_text board row.answer ∷ []))
 
--- the line of a rail in the summary, by its number; a rail without a mode field has the mode normal
+-- a mode, in a word
+abbrev pub mode_text : Mode → List ℕ
+mode_text Fast = codes "fast"
+mode_text Normal = codes "normal"
+mode_text Idle = codes "idle"
+mode_text Standby = codes "standby"
+
+-- the line of a rail in the summary, by its number
 abbrev pub rail_text : Board → Plain → ℕ × Rail → List ℕ
 rail_text board plain rail =
     ended (spaced (codes "rail" ∷ rail.1.name.bytes ∷ (if is_on rail.1 plain.regs then codes "on" else codes "off")
-    ∷ decimal (uv rail.1 plain.regs) ∷ codes "normal" ∷ codes "use" ∷ decimal (use_count board plain rail.0)
+    ∷ decimal (uv rail.1 plain.regs) ∷ mode_text (mode rail.1 plain.regs) ∷ codes "use" ∷ decimal (use_count board plain rail.0)
     ∷ codes "enables" ∷ decimal (enables plain rail.0) ∷ []))
 
 -- where each rail stands, and how many workers and rows there were

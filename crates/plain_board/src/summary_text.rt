@@ -2,11 +2,12 @@ ghost use Rattle.std.specs.Prelude.{◌≡◌, ◌<◌, ◌^◌, ◌++◌, ◌�
 ghost use Rattle.std.specs.List.{enumerate_from};
 ghost use Rattle.board.specs.Valid.{IsValid};
 ghost use Rattle.plain_board.specs.Inv.{Inv};
-ghost use Rattle.plain_board.specs.Text.{ended, spaced, rail_text, summary_text};
+ghost use Rattle.plain_board.specs.Text.{ended, spaced, mode_text, rail_text, summary_text};
 
 use crate::counts::{enables, use_count};
 use crate::plain::Plain;
 use board::{Board, Rail, RailId};
+use load_modes::Mode;
 use std::alloc::{AllocError, Global};
 
 /// Whether a rail is on, in words.
@@ -14,6 +15,18 @@ fn state_text(on: bool) -> &'static str
     ensures { result.now ≡ (if on then codes "on" else codes "off") }
 {
     if on { "on" } else { "off" }
+}
+
+/// A mode, in a word.
+fn mode_text(mode: Mode) -> &'static str
+    ensures { result.now ≡ mode_text mode }
+{
+    match mode {
+        Mode::Fast => "fast",
+        Mode::Normal => "normal",
+        Mode::Idle => "idle",
+        Mode::Standby => "standby",
+    }
 }
 
 /// The line of a rail.
@@ -33,9 +46,10 @@ fn rail_text(
     let name = &rail.name;
     let state = state_text(rail.is_on(&plain.regs));
     let uv = rail.uv(&plain.regs);
+    let mode = mode_text(rail.mode(&plain.regs));
     let used = use_count(board, plain, id);
     let enabled = enables(plain, id);
-    format!(in alloc; "rail {name} {state} {uv} normal use {used} enables {enabled}\n")
+    format!(in alloc; "rail {name} {state} {uv} {mode} use {used} enables {enabled}\n")
 }
 
 /// The lines of all rails, in their order.

@@ -28,7 +28,7 @@ module _ (board : Board) (valid : IsValid board) where
       → rail.desc.selector ≡ o → other.desc.selector ≡ Some g → IfSome o (λ f. SharesBit f g → ⊥)
   apart_by i j rail other g None here there ne is other_is = tt
   apart_by i j rail other g (Some f) here there ne is other_is =
-      valid.apart i j Selector Selector f g (inl ne)
+      valid.sound.apart i j Selector Selector f g (inl ne)
       (ap (option_and_then (part_field Selector)) here ∙ is)
       (ap (option_and_then (part_field Selector)) there ∙ other_is)
 

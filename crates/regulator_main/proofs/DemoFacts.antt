@@ -16,7 +16,10 @@ use Rattle.board.specs.declared.part.Part.{Part}
 use Rattle.board.specs.declared.part.Part.TheVariants.{Selector, Enable, ModePart, SuspendEnable, SuspendSelector}
 use Rattle.board.specs.Rail.{uv, allowed, choices, part_field, is_within, IsAllowed}
 use Rattle.board.specs.Lone.{IsLone}
-use Rattle.board.specs.Valid.{IsPlaced, IsPrinted, HasWidths, SleepsWell, IsSoundRail}
+use Rattle.board.specs.declared.table.Table.TheVariants.{Ranges}
+use Rattle.board.specs.Desc.{IsPlaced, IsSoundDesc}
+use Rattle.board.specs.Valid.{CarriesSystemLoad, IsPrinted, SleepsWell, IsSoundRail}
+use Rattle.board.proofs.Exact.{FillsMask, low_holds, one_has}
 use Rattle.plain_board.specs.declared.plain.Plain.{Plain}
 use Rattle.plain_board.specs.Inv.{Inv}
 use Rattle.regulator_main.specs.Demo.{IsCore, IsDemo, core_ranges, low_bits, demo_regs, demo_plain}
@@ -28,19 +31,9 @@ core_choices = filter (λ pair. is_within (Some (800000, 1000000)) pair.1) (valu
 choices-core : (rail : Rail) → IsCore rail → choices rail ≡ core_choices
 choices-core rail core = rw (core.changeable, core.limits.bounds, core.desc.table) refl
 
--- each selector with a value is a number of 7 bits
-selectors_tested : list_all (λ pair. leb pair.0 127) (values core_ranges) ≡ true
-unfolding values
-selectors_tested = refl
-
-selectors_fit : All (λ pair. pair.0 ≤ 127) (values core_ranges)
-selectors_fit =
-    All-weaker (λ (pair : ℕ × ℕ). leb pair.0 127 ≡ true) (λ pair. pair.0 ≤ 127) (λ pair. leb-true pair.0 127) (values core_ranges)
-    (AllPass-from_list_all (λ pair. leb pair.0 127) (values core_ranges) selectors_tested)
-
--- each number of 7 bits is a selector with a value
-has_uv : (n : ℕ) → n ≤ 127 → IsSome (value_of core_ranges n)
-has_uv n within = let low : leb 0 n ≡ true = grind (arith, nat_tests) in let high : leb n 127 ≡ true = grind (arith, nat_tests) in rw (low, high) refl
+-- its selectors are the numbers of 7 bits
+core_fills : FillsMask (Ranges core_ranges) 0x7f
+core_fills = record { width = 7; some = omega arith; within = omega arith; ones = refl; has = one_has 600000 6250 127 }
 
 -- the register of each part of `core`
 core_reg : Part → ℕ
@@ -98,8 +91,10 @@ core_shape SuspendSelector = record { shape = record { width = 7; some_bit = ome
 core_placed : (rail : Rail) → IsCore rail → (part : Part) → IfSome (part_field part rail) (IsPlaced 1)
 core_placed rail core part = rw (core_field rail core part) (core_shape part)
 
-core_widths : (rail : Rail) → IsCore rail → HasWidths rail
-core_widths rail core = record {
+core_desc_sound : (rail : Rail) → IsCore rail → IsSoundDesc 1 rail.desc
+core_desc_sound rail core = record {
+  placed = core_placed rail core;
+  selector = rw (core.desc.selector, core.desc.table) (low_holds (Ranges core_ranges) 0 0x10 0x7f core_fills);
   enable = rw core.desc.enable refl;
   suspend_enable = rw core.desc.suspend_enable refl;
   modes = rw core.desc.modes refl;
@@ -127,16 +122,16 @@ no_sleeps rail = All-cons (SleepsWell rail) None (None ∷ None ∷ []) tt (All-
 
 core_sound : (rail : Rail) → IsCore rail → IsSoundRail 1 rail
 core_sound rail core = record {
+  desc = core_desc_sound rail core;
   changeable = rw (core.changeable, core.limits.bounds) refl;
-  placed = core_placed rail core;
-  patterns = rw (core.desc.selector, core.desc.table) has_uv;
-  selectors = rw (core.desc.selector, core.desc.table) selectors_fit;
   moves = λ _. rw core.desc.selector refl;
-  widths = core_widths rail core;
   sleeps = subst (All (SleepsWell rail)) (sym core.limits.sleeps) (no_sleeps rail);
   some_value = some_value rail core;
-  loads = λ counts. let counted : false ≡ true = rw core.limits.allow_load at counts in absurd (false≢true counted);
 }
+
+-- it counts no loads
+core_carries : (rail : Rail) → IsCore rail → CarriesSystemLoad rail
+core_carries rail core counts = let counted : false ≡ true = rw core.limits.allow_load at counts in absurd (false≢true counted)
 
 printed_name : All IsPrinted (codes "core")
 printed_name =
@@ -165,6 +160,7 @@ demo_lone board demo = record {
   rail = demo.core;
   rails = demo.rails;
   sound = rw demo.chips (core_sound demo.core demo.is_core);
+  load = core_carries demo.core demo.is_core;
   printed = core_printed demo.core demo.is_core;
   apart = core_apart demo.core demo.is_core;
   supply = demo.is_core.supply;

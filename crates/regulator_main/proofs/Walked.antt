@@ -102,27 +102,6 @@ pub field_of_selector : (board : Board) (id : RailId) (rail : Rail) (field : Fie
     → field_of_move board (record { rail = id; part = Selector; bits = bits }) ≡ Some field
 field_of_selector board id rail field bits place selector = rw place selector
 
-found_step : {X : Type 0} (P : X → Type 0) (test : X → Bool) (y : X) (ys : List X) (x : X) (t : Bool) → All P (y ∷ ys) → cond t (Some y) (find test ys) ≡ Some x → (find test ys ≡ Some x → P x) → P x
-found_step P test y ys x true all is later = let e : y ≡ x = cc in subst P e (All-head P y ys all)
-found_step P test y ys x false all is later = later is
-
--- what is found has what all have
-pub found_has : {X : Type 0} (P : X → Type 0) (test : X → Bool) (xs : List X) (x : X) → All P xs → find test xs ≡ Some x → P x
-found_has P test [] x all is = cc
-found_has P test (y ∷ ys) x all is = found_step P test y ys x (test y) all is (found_has P test ys x (All-tail P y ys all))
-
--- a choice is one of the table, or has the selector 0
-fit_choices : (rail : Rail) (field : Field) (t : Bool) → All (λ pair. FitsField field pair.0) (values_of rail.desc.table)
-    → All (λ pair. FitsField field pair.0) (cond t (filter (λ pair. is_within rail.limits.bounds pair.1) (values_of rail.desc.table)) ((0, rail.kept_uv) ∷ []))
-fit_choices rail field true fits = All-filter (λ pair. is_within rail.limits.bounds pair.1) (λ pair. FitsField field pair.0) (values_of rail.desc.table) fits
-fit_choices rail field false fits = All-cons (λ (pair : ℕ × ℕ). FitsField field pair.0) (0, rail.kept_uv) [] (omega arith) (All-nil (λ (pair : ℕ × ℕ). FitsField field pair.0))
-
--- the selector of a choice fits the rail's field
-pub choice_fits : (rail : Rail) (field : Field) (p : ℕ × ℕ) → rail.desc.selector ≡ Some field → IfSome rail.desc.selector (λ f. All (λ pair. FitsField f pair.0) (values_of rail.desc.table)) → IsFirst (choices rail) p → FitsField field p.0
-choice_fits rail field p selector fits first =
-    found_has (λ pair. FitsField field pair.0) (λ q. eqb q.1 p.1) (choices rail) p
-    (fit_choices rail field rail.changeable (subst (λ (o : Option Field). IfSome o (λ f. All (λ pair. FitsField f pair.0) (values_of rail.desc.table))) selector fits)) first
-
 -- a field has at most a register's numbers
 pub fits_byte : (field : Field) (n : ℕ) → FitsField field n → field.mask < register_contents → n < register_contents
 fits_byte field n fits byte = let whole = div-le_self field.mask (2 ^ field.shift) in omega arith

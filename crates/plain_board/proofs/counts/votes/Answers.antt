@@ -22,12 +22,13 @@ no_more old new i is bound = omega arith
 pub is_on-requires : goal.is_on-requires
 is_on-requires c =
     let within = rw c.as_slice-rail-items.ensures at c.loop-rail-test.true in
-    record { sound = rw (c.requires.inv.regs, c.rail-item.is, c.as_slice-rail-items.ensures) (c.requires.valid.rails _ _ within) }
+    let sound = c.requires.valid.sound.rails _ c.rail-item.result within in
+    rw (c.requires.inv.regs, c.rail-item.is, c.as_slice-rail-items.ensures) sound.desc.placed
 
 pub overflow_add-count : goal.overflow_add-count
 overflow_add-count c =
     let all = ap length c.as_slice-rail-items.ensures in
-    omega (arith, all, c.requires.valid.few, c.loop-rail.invariant.bound, c.loop-rail-test.true)
+    omega (arith, all, c.requires.valid.sound.few, c.loop-rail.invariant.bound, c.loop-rail-test.true)
 
 pub loop-rail-preserved : goal.loop-rail-preserved
 loop-rail-preserved c =

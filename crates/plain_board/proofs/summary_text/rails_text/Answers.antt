@@ -17,7 +17,7 @@ rail_text-requires c = record {
 pub overflow_add-id : goal.overflow_add-id
 overflow_add-id c =
     let all = ap length c.as_slice-rail-items.ensures in
-    omega (arith, all, c.requires.valid.few, c.loop-rail.invariant.number, c.loop-rail-test.true)
+    omega (arith, all, c.requires.valid.sound.few, c.loop-rail.invariant.number, c.loop-rail-test.true)
 
 pub returns : goal.returns
 returns c =

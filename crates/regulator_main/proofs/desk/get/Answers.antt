@@ -1,5 +1,6 @@
 use Rattle.std.proofs.Common.{ℕ, ◌<◌, length, refl, sym, subst, ap, ◌∙◌}
 use Rattle.std.specs.Prelude.{slice_get, position}
+use Rattle.board.specs.Desc.{ArePlaced}
 use Rattle.board.specs.Valid.{IsSoundRail}
 use Rattle.plain_board.specs.Requests.{is_own}
 use Rattle.plain_board.specs.Answer.{get_on}
@@ -20,10 +21,9 @@ rail_at-rail-requires c =
     (ap (λ hs. slice_get hs c.in-Some.at) (sym c.as_slice-handles.ensures) ∙ c.row_at-row.ensures)
 
 pub uv-requires : goal.uv-requires
-uv-requires c = record {
-  sound = subst (λ (n : ℕ). IsSoundRail n c.rail_at-rail.result.now) (sym c.requires.inv.regs)
-      (all_at (IsSoundRail c.args.board.now.chips) c.args.board.now.rails c.row_at-row.result.0.0 c.rail_at-rail.result.now c.requires.valid.rails c.rail_at-rail.ensures);
-}
+uv-requires c =
+    let sound = all_at (IsSoundRail c.args.board.now.chips) c.args.board.now.rails c.row_at-row.result.0.0 c.rail_at-rail.result.now c.requires.valid.sound.rails c.rail_at-rail.ensures in
+    subst (λ (n : ℕ). ArePlaced n c.rail_at-rail.result.now.desc) (sym c.requires.inv.regs) sound.desc.placed
 
 pub returns : goal.returns
 returns c =

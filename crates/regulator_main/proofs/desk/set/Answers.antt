@@ -46,7 +46,7 @@ returns-in_default-least_within-clause-performs g c =
 pub move_to-requires-clause-sound : goal.move_to-requires-clause-sound
 move_to-requires-clause-sound g c =
     subst (λ (n : ℕ). IsSoundRail n c.rail_at-rail.result.now) (sym c.requires.inv.regs)
-    (all_at (IsSoundRail c.args.board.now.chips) c.args.board.now.rails c.row_at-row.result.0.0 c.rail_at-rail.result.now c.requires.valid.rails c.rail_at-rail.ensures)
+    (all_at (IsSoundRail c.args.board.now.chips) c.args.board.now.rails c.row_at-row.result.0.0 c.rail_at-rail.result.now c.requires.valid.sound.rails c.rail_at-rail.ensures)
 
 pub move_to-requires-clause-allowed : goal.move_to-requires-clause-allowed
 move_to-requires-clause-allowed g c =

@@ -6,21 +6,24 @@ use Rattle.chip_regs.specs.declared.field.Field.{Field}
 use Rattle.chip_regs.specs.Field.{FitsField}
 use Rattle.board.specs.declared.part.Part.TheVariants.{Selector}
 use Rattle.board.specs.Rail.{uv, IsAllowed}
-use Rattle.board.specs.Valid.{IsPlaced}
+use Rattle.board.specs.Desc.{IsPlaced, HoldsSelectors}
 use Rattle.plain_board.specs.Moves.{Move, moves_to, selector_for}
 use Rattle.regulator_main.specs.Walk.{IsSameBeside}
-use Rattle.regulator_main.proofs.Walked.{walked_none, within_from_rest, walked_more, rest_more, walked_all, selector_for-first, field_of_selector, choice_fits, fits_byte, uv_written, moves_to-step, none_left}
+use Rattle.regulator_main.proofs.Walked.{walked_none, within_from_rest, walked_more, rest_more, walked_all, selector_for-first, field_of_selector, fits_byte, uv_written, moves_to-step, none_left}
 use Rattle.regulator_main.proofs.walk.walk.Given as given
 use Rattle.regulator_main.proofs.walk.walk.Goals as goal
 use Rattle.regulator_main.proofs.walk.walk.Goals.{After-toward-pick}
 
 -- the selector that is written fits its field
 fits : (g : given.Over) (c : After-toward-pick g) → FitsField c.args.field c.toward-pick.result.sel
-fits g c = choice_fits c.args.rail.now c.args.field (pair_of c.toward-pick.result) c.requires.selector c.requires.sound.selectors c.toward-pick.ensures.first
+fits g c =
+    let holds = subst (λ (o : Option Field). IfSome o (HoldsSelectors c.args.rail.now.desc.table)) c.requires.selector c.requires.sound.desc.selector in
+    let value = c.toward-pick.ensures.value c.requires.changeable in
+    (holds c.toward-pick.result.sel).1 (rw value refl)
 
 -- the selector's field is in the registers
 placed : (g : given.Over) (c : After-toward-pick g) → IsPlaced (length c.args.regs.now) c.args.field
-placed g c = subst (λ (o : Option Field). IfSome o (IsPlaced (length c.args.regs.now))) c.requires.selector (c.requires.sound.placed Selector)
+placed g c = subst (λ (o : Option Field). IfSome o (IsPlaced (length c.args.regs.now))) c.requires.selector (c.requires.sound.desc.placed Selector)
 
 pub write_field-requires-clause-field : goal.write_field-requires-clause-field
 write_field-requires-clause-field g c = (placed g (goal.at.write_field-requires-clause-field g c).After-toward-pick).shape

@@ -2,10 +2,10 @@ use Rattle.std.proofs.Common.{subst}
 use Rattle.std.specs.Prelude.{Option, IfSome, length}
 use Rattle.chip_regs.specs.declared.field.Field.{Field}
 use Rattle.board.specs.declared.part.Part.TheVariants.{Selector}
-use Rattle.board.specs.Valid.{IsPlaced}
+use Rattle.board.specs.Desc.{IsPlaced}
 use Rattle.board.proofs.rail.Rail.uv.Goals as goal
 
 pub get-requires : goal.get-requires
 get-requires c =
-    let placed = subst (λ (o : Option Field). IfSome o (IsPlaced (length c.args.regs.now))) c.in-Some.is (c.requires.sound.placed Selector) in
+    let placed = subst (λ (o : Option Field). IfSome o (IsPlaced (length c.args.regs.now))) c.in-Some.is (c.requires Selector) in
     record { fits = placed.shape; chip = placed.chip }

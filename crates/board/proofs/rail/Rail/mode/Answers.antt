@@ -1,0 +1,11 @@
+use Rattle.std.proofs.Common.{subst}
+use Rattle.std.specs.Prelude.{Option, IfSome, length}
+use Rattle.chip_regs.specs.declared.field.Field.{Field}
+use Rattle.board.specs.declared.part.Part.TheVariants.{ModePart}
+use Rattle.board.specs.Desc.{IsPlaced}
+use Rattle.board.proofs.rail.Rail.mode.Goals as goal
+
+pub get-requires : goal.get-requires
+get-requires c =
+    let placed = subst (λ (o : Option Field). IfSome o (IsPlaced (length c.args.regs.now))) c.in-Some.is (c.requires ModePart) in
+    record { fits = placed.shape; chip = placed.chip }
