@@ -1,9 +1,17 @@
 pub mod Apart
 pub mod Best
 pub mod BoardGraph
+pub mod Boards
 pub mod Choices
 pub mod Exact
 pub mod Lists
 pub mod Lone
 pub mod Nearest
 pub mod Picks
+pub mod Tested
+pub mod WorkedBoards
+pub mod WorkedDescs
+pub mod WorkedFields
+pub mod WorkedGaps
+pub mod WorkedRails
+pub mod WorkedSound

@@ -1,1 +1,4 @@
+pub mod FailsBy
+pub mod WorkedGraphs
+pub mod WorkedOrders
 pub mod OneOrder
