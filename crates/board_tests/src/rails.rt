@@ -1,6 +1,6 @@
 //! Picks within bounds, and what registers say, whose expected values are worked out by hand.
-ghost use Rattle.std.specs.Prelude.{◌≡◌, ◌<◌, None, length, IfOk};
-ghost use Rattle.board.specs.Valid.{IsSoundRail};
+ghost use Rattle.std.specs.Prelude.{◌≡◌, ◌<◌, length, IfOk};
+ghost use Rattle.board.specs.Desc.{ArePlaced};
 
 use crate::same::assert_same;
 use bitflags::Flags;
@@ -9,7 +9,7 @@ use board_graph::Graph;
 use chip_regs::{Field, Regs};
 use item_list::Items;
 use linear_range::{LinearRange, Pick, RangeTable};
-use load_modes::Modes;
+use load_modes::{Mode, Modes};
 use ramp_delay::Times;
 use std::alloc::Global;
 use std::process::Abort;
@@ -19,7 +19,7 @@ use voltage_table::VoltList;
 /// A rail on 600000 µV and 6250 µV more for each selector up to 127; without bounds it keeps the
 /// value that it has.
 fn core(bounds: Option<(u32, u32)>) -> Result<Rail, Fail>
-    ensures { IfOk result (λ rail. bounds ≡ None → IsSoundRail 1 rail) }
+    ensures { IfOk result (λ rail. ArePlaced 1 rail.desc) }
 {
     let selector = field(0x10, 0x7f);
     let enable = field(0x20, 0x01);
@@ -35,7 +35,7 @@ fn core(bounds: Option<(u32, u32)>) -> Result<Rail, Fail>
             table: Table::Ranges(RangeTable::new(&[range])?),
             selector: Some(selector),
             enable,
-            modes: None,
+            modes: Some(field(0x30, 0x03)),
             greatest: [0; 4],
             suspend_enable: None,
             suspend_selector: None,
@@ -219,7 +219,7 @@ fn assert_fields(rt: &impl Abort, board: &Board) {
     assert_field(rt, board, 0, Part::Selector, selector);
     let enable = Some((0x20, 0x01));
     assert_field(rt, board, 1, Part::Enable, enable);
-    assert_field(rt, board, 1, Part::ModePart, None);
+    assert_field(rt, board, 1, Part::SuspendEnable, None);
 }
 
 fn rail_at(rt: &impl Abort, board: &Board, place: u16) -> RailId
@@ -247,11 +247,12 @@ fn assert_field(rt: &impl Abort, board: &Board, place: u16, part: Part, field: O
     assert_same(rt, "field", (place, found), (place, field));
 }
 
-/// The two registers, µV, whether the rail is on.
-const SAID: &[(u8, u8, u32, bool)] = &[
-    (0x20, 0x00, 800000, false),
-    (0xb1, 0xfe, 906250, false),
-    (0x7f, 0x01, 1393750, true),
+/// The three registers, µV, whether the rail is on, its mode.
+const SAID: &[(u8, u8, u8, u32, bool, Mode)] = &[
+    (0x20, 0x00, 0x00, 800000, false, Mode::Fast),
+    (0xb1, 0xfe, 0xfd, 906250, false, Mode::Normal),
+    (0x7f, 0x01, 0x02, 1393750, true, Mode::Idle),
+    (0x7f, 0x01, 0x07, 1393750, true, Mode::Standby),
 ];
 
 #[test]
@@ -263,18 +264,20 @@ fn what_the_registers_say(rt: HostRuntime) -> Result<(), Fail> {
 }
 
 fn assert_said(rt: &impl Abort, rail: &Rail, regs: &mut Regs)
-    requires { IsSoundRail 1 rail.now }
+    requires { ArePlaced 1 rail.now.desc }
 {
     for &row in SAID {
-        let (selector, on, _, _) = row;
+        let (selector, on, mode, _, _, _) = row;
         assert!(rt; regs.chips() == 1);
         regs.set_byte(0, 0x10, selector);
         regs.set_byte(0, 0x20, on);
+        regs.set_byte(0, 0x30, mode);
         assert!(rt; regs.chips() == 1);
+        let found = (rail.uv(regs), rail.is_on(regs), rail.mode(regs));
         assert_same(
             rt,
             "said",
-            (selector, on, rail.uv(regs), rail.is_on(regs)),
+            (selector, on, mode, found.0, found.1, found.2),
             row,
         );
     }
