@@ -107,7 +107,7 @@ coupled_board = record {
 
 -- a buck, an ldo that has its supply in it, and a fixed rail that is the buck's supply
 abbrev pub io_rail : Rail
-io_rail = rail_of (codes "buck3") (buck 2 io_table 0x1f) 1000000 3100000 (Some 2) 0
+io_rail = rail_of (codes "buck3") (record (buck 2 io_table 0x1f) { ramp = 10000 }) 1000000 3100000 (Some 2) 0
 
 abbrev pub usb_rail : Rail
 usb_rail = rail_of (codes "ldo1") (ldo 3 usb_table 0x07) 1200000 3300000 (Some 0) 1

@@ -94,10 +94,27 @@ second_sound = record {
   some_value = λ none. cc;
 }
 
+-- a description's ramp says nothing of its soundness
+other_ramp_placed : (chips : ℕ) (desc : Desc) (ramp : ℕ) → ArePlaced chips desc → ArePlaced chips (record desc { ramp = ramp })
+other_ramp_placed chips desc ramp placed Selector = placed Selector
+other_ramp_placed chips desc ramp placed Enable = placed Enable
+other_ramp_placed chips desc ramp placed ModePart = placed ModePart
+other_ramp_placed chips desc ramp placed SuspendEnable = placed SuspendEnable
+other_ramp_placed chips desc ramp placed SuspendSelector = placed SuspendSelector
+
+other_ramp : (chips : ℕ) (desc : Desc) (ramp : ℕ) → IsSoundDesc chips desc → IsSoundDesc chips (record desc { ramp = ramp })
+other_ramp chips desc ramp sound = record {
+  placed = other_ramp_placed chips desc ramp sound.placed;
+  selector = sound.selector;
+  enable = sound.enable;
+  suspend_enable = sound.suspend_enable;
+  modes = sound.modes;
+}
+
 pub io_sound : IsSoundRail 2 io_rail
 unfolding values
 io_sound = record {
-  desc = buck_sound 2 (omega arith) 2 (omega arith) io_table 0x1f io_fills;
+  desc = other_ramp 2 (buck 2 io_table 0x1f) 10000 (buck_sound 2 (omega arith) 2 (omega arith) io_table 0x1f io_fills);
   changeable = refl;
   moves = λ _. refl;
   sleeps = no_sleeps io_rail;

@@ -1,7 +1,7 @@
 -- A line of a data sheet makes a sound rail.
 use Rattle.std.proofs.Common.{◌≡◌, ℕ, ◌+◌, ◌-◌, ◌*◌, ◌/◌, ◌%◌, ◌^◌, ◌<◌, ◌≤◌, List, [], ◌∷◌, map, refl, ap, ◌∙◌, arith}
 use Rattle.std.proofs.lemmas.Nat.{shl-shr}
-use Rattle.std.specs.List.{All, AllByRecursion, enumerate_from}
+use Rattle.std.specs.List.{AllByRecursion, enumerate_from}
 use Rattle.std.specs.Prelude.{IfSome}
 use Rattle.chip_regs.specs.Field.{greatest_of}
 use Rattle.chip_regs.specs.Width.{register_width}
