@@ -1,4 +1,4 @@
-use Rattle.std.proofs.Common.{◌≡◌, ℕ, List, [], ◌∷◌, ◌++◌, refl, ◌∙◌, ap, append_assoc}
+use Rattle.std.proofs.Common.{◌≡◌, ℕ, List, [], ◌∷◌, refl, ◌∙◌, ap, append_assoc}
 use Rattle.std.specs.Prelude.{codes, decimal, string_bytes, if◌then◌else◌}
 use Rattle.std.proofs.lemmas.Option.{get_or_from_slice_get, slice_get_within}
 use Rattle.std.proofs.lemmas.Result.{IfOk-weaker}
@@ -42,9 +42,9 @@ pub returns : goal.returns
 returns c =
     IfOk-weaker c.format.result _ _
     (λ text is.
-        let put : string_bytes text ≡ line c.args.rail.now.name.bytes c.state_text-state.result.now c.uv-uv.result c.mode_text-mode.result.now c.use_count-used.result c.enables-enabled.result =
-        is ∙ simp append_assoc in
-        put ∙ same_line c.args.rail.now.name.bytes _ _ _ _ _ _ _ _ _ _
-        (c.state_text-state.ensures ∙ ap (λ on. if on then codes "on" else codes "off") c.is_on.ensures) c.uv-uv.ensures
-        (c.mode_text-mode.ensures ∙ ap mode_text c.mode.ensures) c.use_count-used.ensures c.enables-enabled.ensures.value)
+    let put : string_bytes text ≡ line c.args.rail.now.name.bytes c.state_text-state.result.now c.uv-uv.result c.mode_text-mode.result.now c.use_count-used.result c.enables-enabled.result =
+    is ∙ simp append_assoc in
+    put ∙ same_line c.args.rail.now.name.bytes _ _ _ _ _ _ _ _ _ _
+    (c.state_text-state.ensures ∙ ap (λ on. if on then codes "on" else codes "off") c.is_on.ensures) c.uv-uv.ensures
+    (c.mode_text-mode.ensures ∙ ap mode_text c.mode.ensures) c.use_count-used.ensures c.enables-enabled.ensures.value)
     c.format.ensures.ok
