@@ -4,6 +4,7 @@ use Rattle.std.proofs.Math.Nat.{div-one}
 use Rattle.std.specs.Prelude.{◌↔◌, IsSome}
 use Rattle.std.proofs.lemmas.Bool.Decides.{nat_tests}
 use Rattle.std.proofs.lemmas.Option.{slice_get_cases}
+use Rattle.chip_regs.specs.Width.{register_width}
 use Rattle.linear_range.specs.declared.linear_range.LinearRange.{LinearRange}
 use Rattle.board.specs.declared.table.Table.{Table}
 use Rattle.board.specs.declared.table.Table.TheVariants.{Ranges, List as Listed}
@@ -39,7 +40,7 @@ entries_of (Listed uvs) = uvs
 pub record FillsMask (table : Table) (mask : ℕ) : Type 0 where
   pub width : ℕ
   pub some : 0 < width
-  pub within : width ≤ 8
+  pub within : width ≤ register_width
   pub ones : mask ≡ 2 ^ width - 1
   pub has : HasSelectors table mask
 

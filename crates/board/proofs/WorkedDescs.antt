@@ -4,6 +4,7 @@ use Rattle.std.proofs.Common.{◌≡◌, ℕ, zero, suc, ◌+◌, ◌-◌, ◌*�
 use Rattle.std.proofs.lemmas.Nat.{shl-shr}
 use Rattle.chip_regs.specs.declared.field.Field.{Field}
 use Rattle.chip_regs.specs.Field.{IsField}
+use Rattle.chip_regs.specs.Width.{register_width}
 use Rattle.board_graph.proofs.FailsBy.{FailsBy}
 use Rattle.board.specs.declared.desc.Desc.{Desc}
 use Rattle.board.specs.declared.part.Part.TheVariants.{Selector, Enable, ModePart, SuspendEnable, SuspendSelector}
@@ -78,7 +79,7 @@ module _ (chips : ℕ) (some_chip : 0 < chips) where
   low_placed : (table : Table) (reg mask : ℕ) → FillsMask table mask → IsPlaced chips (low_bits reg mask)
   low_placed table reg mask fills = record { shape = record { width = fills.width; some_bit = fills.some; within = omega (arith, fills.within); run = rw fills.ones (omega arith) }; chip = some_chip }
 
-  bit_placed : (reg k : ℕ) → k < 8 → IsPlaced chips (bit reg k)
+  bit_placed : (reg k : ℕ) → k < register_width → IsPlaced chips (bit reg k)
   bit_placed reg k few = record { shape = record { width = 1; some_bit = omega arith; within = omega arith; run = omega arith }; chip = some_chip }
 
   modes_placed : (k : ℕ) → k < 4 → IsPlaced chips (record { chip = 0; reg = 0x30; mask = 3 * 2 ^ (2 * k); shift = 2 * k })

@@ -1,5 +1,6 @@
 -- Rails worked out by hand: the values that they may stand at, and what registers say of them.
-use Rattle.std.specs.Prelude.{◌≡◌, ℕ, true, false, List, [], ◌∷◌, Some, None, replicate}
+use Rattle.chip_regs.specs.Width.{register_contents, chip_registers}
+use Rattle.std.specs.Prelude.{◌≡◌, ℕ, ◌-◌, true, false, List, [], ◌∷◌, Some, None, replicate}
 use Rattle.std.proofs.Common.{refl}
 use Rattle.linear_range.specs.Values.{values}
 use Rattle.load_modes.specs.declared.mode.Mode.TheVariants.{Fast, Normal, Idle, Standby}
@@ -82,7 +83,7 @@ least_of_none = refl
 -- Registers of two chips. In chip 0 the first selector is 49 with the spare bit set, the second 64;
 -- the first rail is off and the second on; the modes are standby, idle and fast.
 abbrev some_regs : List (List ℕ)
-some_regs = with_byte (with_byte (with_byte (with_byte (replicate 256 0 ∷ replicate 256 255 ∷ []) 0 0x10 0xb1) 0 0x11 0x40) 0 0x20 0x0a) 0 0x30 0x0b
+some_regs = with_byte (with_byte (with_byte (with_byte (replicate chip_registers 0 ∷ replicate chip_registers (register_contents - 1) ∷ []) 0 0x10 0xb1) 0 0x11 0x40) 0 0x20 0x0a) 0 0x30 0x0b
 
 stands_by_selector : uv first_buck some_regs ≡ 906250
 unfolding with_byte byte_of field_of
