@@ -26,10 +26,7 @@ fn main(rt: HostRuntime) -> io::Result<ExitCode> {
 
 /// Runs what the word names over the standard input. Another word is told on the standard error, and
 /// the status is 2.
-fn run(
-    rt: &(impl Input + Print + Eprint + Alloc<A = Global>),
-    word: &str,
-) -> io::Result<ExitCode> {
+fn run(rt: &(impl Input + Print + Eprint + Alloc<A = Global>), word: &str) -> io::Result<ExitCode> {
     match word {
         "rows" => rows(rt)?,
         "count" => count(rt)?,
