@@ -14,8 +14,8 @@ use Rattle.std.specs.Ordering.{nat_cmp, is_eq, match_ordering}
 use Rattle.std.specs.declared.cmp.Ordering.{Ordering}
 use Rattle.std.specs.declared.cmp.Ordering.TheVariants.{Less, Equal, Greater}
 use Rattle.std.specs.Str.{bytes_eq}
-use Rattle.dts_tree.specs.Firsts.{found_on, shelf_of}
-use Rattle.dts_tree.specs.Names.{or_else}
+use Rattle.dts_tree.specs.Inside.Firsts.{found_on, shelf_of}
+use Rattle.dts_tree.specs.Inside.Numbers.{or_else}
 
 abbrev Name : Type 0
 Name = Vec ℕ Global

@@ -24,20 +24,18 @@ use Rattle.dts_tree.specs.declared.setting.Setting.{Setting}
 use Rattle.dts_tree.specs.declared.setting.Setting.TheVariants.{Opens, Sets}
 use Rattle.dts_tree.specs.declared.step.Step.{Step}
 use Rattle.dts_tree.specs.declared.step.Step.TheVariants.{Label, Root, Node, Add, Leave, Property}
-use Rattle.dts_tree.specs.Known.{is_labelled, AreLabelled, SetsLabelled}
-use Rattle.dts_tree.specs.Names.{number_in}
-use Rattle.dts_tree.specs.Reader.{reading, with_path_at}
+use Rattle.dts_tree.specs.Inside.Known.{is_labelled, AreLabelled, SetsLabelled, NamesNodes}
+use Rattle.dts_tree.specs.Inside.Numbers.{number_in, first_with, known_before}
+use Rattle.dts_tree.specs.Inside.Reader.{reading, with_path_at, AllBelow}
 use Rattle.dts_tree.specs.Reading.{Reading, nothing_read, walked, stepped, opened, node_opened, added, unless_fault, here}
-use Rattle.dts_tree.specs.Saying.{said_with, value_of, is_unknown, unknown_ref}
+use Rattle.dts_tree.specs.Saying.{said_with, value_of, is_unknown, unknown_ref, is_ref}
 use Rattle.dts_tree.specs.Settled.{with_value, same_property}
-use Rattle.dts_tree.specs.TextReading.{fault_behind, names_label, reading_in}
-use Rattle.dts_tree.specs.Within.{IsStepWithin}
-use Rattle.dts_tree.specs.Names.{blank, name_of, first_with, known_before}
-use Rattle.dts_tree.specs.Known.{IsCellBelow}
-use Rattle.dts_tree.specs.Reader.{AllBelow}
-use Rattle.dts_tree.specs.Saying.{is_ref}
-use Rattle.dts_tree.specs.Tree.{DeviceTree, kept_tree}
-use Rattle.dts_tree.specs.TreeValues.{NamesNodes, node_of_label, cell_in}
+use Rattle.dts_tree.specs.TextReading.{fault_behind, names_label}
+use Rattle.dts_tree.specs.Inside.Kept.{reading_in, kept_tree}
+use Rattle.dts_tree.specs.Inside.Within.{IsStepWithin}
+use Rattle.dts_tree.specs.Names.{blank, name_of}
+use Rattle.dts_tree.specs.TreeValues.{IsCellBelow, node_of_label, cell_in}
+use Rattle.dts_tree.specs.Tree.{DeviceTree}
 use Rattle.dts_tree.specs.Value.{cell_of, cells_in}
 use Rattle.dts_tree.proofs.NamesLemmas.{number_named}
 use Rattle.dts_tree.proofs.TextReadingLemmas.{unknown_named}

@@ -5,10 +5,10 @@ use Rattle.std.specs.List.{position_or_len}
 use Rattle.std.specs.Cmp.Lexicographic.{pointwise}
 use Rattle.std.proofs.lemmas.Bool.{cases_eq, eqb-true}
 use Rattle.std.proofs.lemmas.Slice.Eq.{bytes_eq-Decides}
-use Rattle.dts_tree.specs.Reader.{AllBelow, path_at}
-use Rattle.dts_tree.specs.Order.{in_tree_order}
+use Rattle.dts_tree.specs.Inside.Reader.{AllBelow, path_at}
+use Rattle.dts_tree.specs.Inside.Order.{in_tree_order}
 use Rattle.dts_tree.specs.Shape.{ParentsOf}
-use Rattle.dts_tree.specs.Settled.{IsLed}
+use Rattle.dts_tree.specs.Inside.Layout.{IsLed}
 use Rattle.dts_tree.proofs.TreeLemmas.{below-at}
 use Rattle.dts_tree.proofs.TreeOrderLemmas.{order-first, order-led, order-length, all-seen}
 

@@ -11,7 +11,8 @@ use Rattle.std.proofs.lemmas.Slice.Eq.{bytes_eq-Decides}
 use Rattle.dts_lex.specs.declared.token.Token.{Token}
 use Rattle.dts_lex.specs.declared.token.Kind.{Kind}
 use Rattle.dts_lex.specs.declared.token.Kind.TheVariants as kind
-use Rattle.dts_tree.specs.Names.{name_by_kind, name_of, first_with, number_in, or_else, or_this, known_before, blank, name_at}
+use Rattle.dts_tree.specs.Names.{name_by_kind, name_of, blank}
+use Rattle.dts_tree.specs.Inside.Numbers.{first_with, number_in, or_else, or_this, known_before, name_at}
 
 module _ (text : List ℕ) (tokens : List Token) (at : ℕ) (d : Token) (inside : at < length tokens) where
   before_here : (q : List ℕ) → first_with text tokens q < at → known_before (first_with text tokens q) at ≡ Some (first_with text tokens q)

@@ -8,12 +8,12 @@ use Rattle.std.proofs.lemmas.List.{get_or_append_left, get_or_push, length_push,
 use Rattle.std.proofs.lemmas.List.Folds.{position_or_len_push}
 use Rattle.std.proofs.lemmas.List.Sums.{position_or_len_is, prefix_len-le-length}
 use Rattle.std.proofs.lemmas.Slice.Eq.{bytes_eq-Decides}
-use Rattle.dts_tree.specs.Path.{number_of, with_path, paths_behind, paths_of}
+use Rattle.dts_tree.specs.Path.{number_of, with_path}
+use Rattle.dts_tree.specs.Inside.Numbered.{paths_behind, paths_of, same_key, keys_of, depths_of, Paths, Numbered}
 use Rattle.std.specs.Option.{option_map}
 use Rattle.std.specs.Prelude.{slice_get}
 use Rattle.std.proofs.lemmas.Option.{get_or_from_slice_get, slice_get-get_or}
 use Rattle.ordered_map.specs.Entries.{place_of}
-use Rattle.dts_tree.specs.Numbered.{same_key, keys_of, depths_of, Paths, Numbered}
 
 paths_behind-push : (paths : List (List ℕ)) (keys : List (ℕ × ℕ)) (k : ℕ × ℕ) → paths_behind paths (keys ++ k ∷ []) ≡ paths_behind paths keys ++ (k.1 ∷ get_or (paths_behind paths keys) k.0 []) ∷ []
 paths_behind-push paths [] k = refl

@@ -4,8 +4,8 @@ use Rattle.std.proofs.Math.Logic.{⊎_elim}
 use Rattle.std.specs.List.{range_with_len, flat_map}
 use Rattle.std.proofs.lemmas.Bool.{cases_eq, cases_lt, cases_Bool, cond-true, cond-false, eq-eqb, ne_eqb, eqb-true}
 use Rattle.std.proofs.lemmas.List.{length-set, get_or-set_same, get_or-set_other, reverse-append, append-nil}
-use Rattle.dts_tree.specs.Reader.{AllBelow}
-use Rattle.dts_tree.specs.Order.{children_from, below, siblings_after, first_of, listed, Linked}
+use Rattle.dts_tree.specs.Inside.Reader.{AllBelow}
+use Rattle.dts_tree.specs.Inside.Order.{children_from, below, siblings_after, first_of, listed, Linked}
 
 -- from k on
 pub record LinkedFrom (parents : List ℕ) (first next : List (Option ℕ)) (k : ℕ) : Type 0 where

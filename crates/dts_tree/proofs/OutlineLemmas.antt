@@ -19,10 +19,10 @@ use Rattle.dts_tree.specs.declared.symbol.Symbol.TheVariants as symbol
 use Rattle.dts_tree.specs.Symbol.{symbol_of}
 use Rattle.dts_tree.specs.Grammar.{Told, Is, Cells, Bytes, Part, Value, Opening, Members, Items, File}
 use Rattle.dts_tree.specs.Grammar as grammar
-use Rattle.dts_tree.specs.Rest.{Then, Inside, PartThen, Rest, Follows}
+use Rattle.dts_tree.specs.Inside.Rest.{Then, Inside, PartThen, Rest, Follows}
 use Rattle.dts_tree.specs.declared.outline.OutlineFault.{OutlineFault}
 use Rattle.dts_tree.specs.Outline.{Reads, list_of, told_by, BeginText, AreText, Tell, Breaks, fault_of}
-use Rattle.dts_tree.specs.Within.{IsStepWithin}
+use Rattle.dts_tree.specs.Inside.Within.{IsStepWithin}
 
 -- the spans of tokens
 

@@ -13,7 +13,7 @@ use Rattle.std.proofs.lemmas.List.Elements.{filter-append}
 use Rattle.std.proofs.lemmas.List.Folds.{position_or_len_push}
 use Rattle.std.proofs.lemmas.List.Sums.{prefix_len-le-length}
 use Rattle.dts_lex.specs.declared.token.Token.{Token}
-use Rattle.dts_tree.specs.Names.{or_else}
+use Rattle.dts_tree.specs.Inside.Numbers.{or_else}
 use Rattle.dts_tree.specs.Outline.{list_of}
 use Rattle.dts_tree.specs.TreeValues.{lone_number}
 use Rattle.dts_tree.proofs.TreeOrderLemmas.{position-wider}

@@ -16,7 +16,7 @@ use Rattle.ordered_map.specs.Entries.{insert_entry}
 use Rattle.dts_tree.specs.Reading.{Reading, elsewhere, stands_elsewhere, with_labels, opened, stepped, walked, unless_fault, nothing_read}
 use Rattle.dts_tree.specs.declared.said.Said.{Said}
 use Rattle.dts_tree.specs.declared.reader.Reader.{Reader}
-use Rattle.dts_tree.specs.Reader.{Standing, reading, AllBelow, path_at, label_at, with_path_at, node_of, elsewhere_by_number, stands_off, with_labels_at}
+use Rattle.dts_tree.specs.Inside.Reader.{Standing, reading, AllBelow, path_at, label_at, with_path_at, node_of, elsewhere_by_number, stands_off, with_labels_at}
 
 pub all_below-push : {X : Type 0} (f : X → ℕ) (n : ℕ) (xs : List X) (x : X) → AllBelow n (map f xs) → f x < n → AllBelow n (map f (xs ++ x ∷ []))
 all_below-push f n [] x h new = (new, tt)

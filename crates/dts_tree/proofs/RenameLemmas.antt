@@ -12,7 +12,7 @@ use Rattle.dts_tree.specs.declared.fault.TreeFault.{TreeFault}
 use Rattle.dts_tree.specs.declared.fault.TreeFault.TheVariants.{TooDeep}
 use Rattle.dts_tree.specs.Path.{number_of, with_path}
 use Rattle.dts_tree.specs.Reading.{Reading, here, left, elsewhere, stands_elsewhere, with_labels, opened, node_opened, added, stepped, walked, unless_fault, nothing_read}
-use Rattle.dts_tree.specs.Rename.{said_by, setting_by, label_by, waiting_by, reading_by, read_by}
+use Rattle.dts_tree.specs.Inside.Rename.{said_by, setting_by, label_by, waiting_by, reading_by, read_by}
 
 pub map-cond : {X Y : Type 0} (g : X → Y) (b : Bool) (x y : X) → g (cond b x y) ≡ cond b (g x) (g y)
 map-cond g true x y = refl

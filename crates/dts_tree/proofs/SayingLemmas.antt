@@ -7,7 +7,7 @@ use Rattle.std.proofs.lemmas.List.{drop_more, drop_all, get_or-map}
 use Rattle.std.proofs.lemmas.List.Folds.{find-append}
 use Rattle.dts_lex.specs.declared.token.Token.{Token}
 use Rattle.dts_tree.specs.declared.step.Step.{Step}
-use Rattle.dts_tree.specs.Names.{number_in}
+use Rattle.dts_tree.specs.Inside.Numbers.{number_in}
 use Rattle.dts_tree.specs.Saying.{is_unknown, unknown_ref, value_of}
 
 slice_range-cons : {X : Type 0} (xs : List X) (at to : ℕ) (d : X) → at < to → at < length xs → slice_range xs at to ≡ get_or xs at d ∷ slice_range xs (at + 1) to

@@ -9,13 +9,13 @@ use Rattle.dts_lex.specs.declared.token.Token.{Token}
 use Rattle.dts_tree.specs.declared.setting.Setting.{Setting}
 use Rattle.dts_tree.specs.declared.setting.Setting.TheVariants.{Opens, Sets}
 use Rattle.dts_tree.specs.declared.reader.Reader.{Reader}
-use Rattle.dts_tree.specs.Names.{name_at}
-use Rattle.dts_tree.specs.Reader.{Standing, AllBelow, path_at, label_at, with_path_at, node_of}
-use Rattle.dts_tree.specs.Rename.{setting_by, label_by}
+use Rattle.dts_tree.specs.Inside.Numbers.{name_at}
+use Rattle.dts_tree.specs.Inside.Reader.{Standing, AllBelow, path_at, label_at, with_path_at, node_of}
+use Rattle.dts_tree.specs.Inside.Rename.{setting_by, label_by}
 use Rattle.dts_tree.specs.Shape.{is_child_of, children_of, tree_below, tree_order_of}
 use Rattle.dts_tree.specs.Settled.{first_place, same_property, with_value, values_of}
-use Rattle.dts_tree.specs.TextReading.{reading_in}
-use Rattle.dts_tree.specs.Tree.{kept_tree, tree_of, with_tokens, kept_value, kept_label}
+use Rattle.dts_tree.specs.Inside.Kept.{reading_in, kept_tree, kept_value, kept_label}
+use Rattle.dts_tree.specs.Tree.{tree_of, with_tokens}
 use Rattle.dts_tree.proofs.NamesLemmas.{names_tell}
 use Rattle.dts_tree.proofs.ReaderLemmas.{map-same, all_below-id}
 use Rattle.dts_tree.proofs.RenameLemmas.{path_same, map-cond}

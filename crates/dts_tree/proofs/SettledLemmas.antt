@@ -6,7 +6,8 @@ use Rattle.std.specs.List.{position_or_len}
 use Rattle.std.proofs.lemmas.List.{drop_all, drop_more, length-set, get_or-set_same, get_or-set_other, get_or_append_left, get_or_push}
 use Rattle.dts_tree.specs.declared.setting.Setting.{Setting}
 use Rattle.dts_tree.specs.declared.setting.Setting.TheVariants.{Opens, Sets}
-use Rattle.dts_tree.specs.Settled.{first_place, with_place}
+use Rattle.dts_tree.specs.Settled.{first_place}
+use Rattle.dts_tree.specs.Inside.Layout.{with_place}
 use Rattle.dts_tree.specs.Shape.{ParentsOf}
 
 pub with_place-length : (places : List ℕ) (s : Setting ℕ ℕ) → length (with_place places s) ≡ length places

@@ -6,7 +6,7 @@ use Rattle.std.proofs.lemmas.Bool.{eqb-true, ne_eqb}
 use Rattle.std.proofs.lemmas.List.{same_lists, map-append, get_or_default}
 use Rattle.std.proofs.lemmas.List.Folds.{flat_map-map}
 use Rattle.std.proofs.lemmas.List.FromFn.{length-map-range_with_len, get_or-map-range_with_len}
-use Rattle.dts_tree.specs.Order.{children_from, in_tree_order}
+use Rattle.dts_tree.specs.Inside.Order.{children_from, in_tree_order}
 use Rattle.dts_tree.specs.Shape.{is_child_of, children_of, tree_below, tree_order_of, ParentsOf}
 use Rattle.dts_tree.proofs.RenameLemmas.{map-cond}
 use Rattle.dts_tree.proofs.OrderLemmas.{block, block-step, filter-none, filter-fails, flat_map-children, IsEarlier}

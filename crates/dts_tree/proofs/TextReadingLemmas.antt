@@ -12,16 +12,18 @@ use Rattle.dts_tree.specs.declared.step.Step.{Step}
 use Rattle.dts_tree.specs.declared.step.Step.TheVariants.{Label, Root, Node, Add, Leave, Property}
 use Rattle.dts_tree.specs.declared.fault.TreeFault.{TreeFault}
 use Rattle.dts_tree.specs.declared.reader.Reader.{Reader}
-use Rattle.dts_tree.specs.Names.{blank, name_of, name_at, number_in}
-use Rattle.dts_tree.specs.Reader.{reading, label_at}
+use Rattle.dts_tree.specs.Names.{blank, name_of}
+use Rattle.dts_tree.specs.Inside.Numbers.{name_at, number_in}
+use Rattle.dts_tree.specs.Inside.Reader.{reading, label_at}
 use Rattle.dts_tree.specs.Reading.{nothing_read, walked}
-use Rattle.dts_tree.specs.Rename.{said_by, label_by, read_by}
+use Rattle.dts_tree.specs.Inside.Rename.{said_by, label_by, read_by}
 use Rattle.dts_tree.specs.Saying.{said_with, value_of, is_ref, is_unknown, unknown_ref}
 use Rattle.dts_tree.specs.declared.fault.TreeFault.TheVariants as fault
 use Rattle.dts_tree.specs.declared.outline.OutlineFault.{OutlineFault}
 use Rattle.dts_tree.specs.Outline.{IsOutline}
-use Rattle.dts_tree.specs.TextReading.{read_of, names_label, reading_in, fault_behind, or_fault, checked, IsOutcome}
-use Rattle.dts_tree.specs.Within.{IsStepWithin}
+use Rattle.dts_tree.specs.TextReading.{read_of, names_label, fault_behind, or_fault, checked, IsOutcome}
+use Rattle.dts_tree.specs.Inside.Kept.{reading_in}
+use Rattle.dts_tree.specs.Inside.Within.{IsStepWithin}
 use Rattle.dts_tree.proofs.NamedLemmas.{SaysNamed, read_nodes_named, named_at}
 use Rattle.dts_tree.proofs.NamesLemmas.{name_of_number, names_tell, number_named}
 use Rattle.dts_tree.proofs.RenameLemmas.{walked_same, nothing_same}

@@ -5,9 +5,10 @@ use Rattle.std.specs.Str.{bytes_eq}
 use Rattle.std.specs.Cmp.Lexicographic.{pointwise}
 use Rattle.std.proofs.lemmas.List.{get_or-map, length-map}
 use Rattle.dts_lex.specs.declared.token.Token.{Token}
-use Rattle.dts_tree.specs.Names.{name_at}
-use Rattle.dts_tree.specs.Reader.{AllBelow, path_at}
-use Rattle.dts_tree.specs.Tree.{DeviceTree, kept_tree}
+use Rattle.dts_tree.specs.Inside.Numbers.{name_at}
+use Rattle.dts_tree.specs.Inside.Reader.{AllBelow, path_at}
+use Rattle.dts_tree.specs.Tree.{DeviceTree}
+use Rattle.dts_tree.specs.Inside.Kept.{kept_tree}
 use Rattle.dts_tree.proofs.NamesLemmas.{names_tell}
 use Rattle.dts_tree.proofs.RenameLemmas.{path_same}
 

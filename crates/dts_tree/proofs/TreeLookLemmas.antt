@@ -10,13 +10,14 @@ use Rattle.std.specs.Option.{option_map}
 use Rattle.std.specs.Str.{bytes_eq}
 use Rattle.std.specs.Cmp.Lexicographic.{pointwise}
 use Rattle.dts_lex.specs.declared.token.Token.{Token}
-use Rattle.dts_tree.specs.Names.{name_at, first_with, known_before}
-use Rattle.dts_tree.specs.Reader.{AllBelow, path_at, node_of}
+use Rattle.dts_tree.specs.Inside.Numbers.{name_at, first_with, known_before}
+use Rattle.dts_tree.specs.Inside.Reader.{AllBelow, path_at, node_of}
 use Rattle.dts_tree.specs.declared.setting.Setting.{Setting}
 use Rattle.dts_tree.specs.declared.setting.Setting.TheVariants.{Opens, Sets}
 use Rattle.ordered_map.specs.Entries.{insert_entry}
 use Rattle.dts_tree.specs.Settled.{same_property, with_value}
-use Rattle.dts_tree.specs.Tree.{DeviceTree, kept_tree, kept_value, kept_label, with_tokens, value_in}
+use Rattle.dts_tree.specs.Tree.{DeviceTree, with_tokens, value_in}
+use Rattle.dts_tree.specs.Inside.Kept.{kept_tree, kept_value, kept_label}
 use Rattle.dts_tree.specs.TreeValues.{node_of_label, node_among}
 use Rattle.dts_tree.proofs.NamesLemmas.{names_tell, name_found, name_missing}
 use Rattle.dts_tree.proofs.RenameLemmas.{path_same}

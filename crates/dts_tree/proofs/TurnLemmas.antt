@@ -9,7 +9,7 @@ use Rattle.dts_tree.specs.declared.symbol.Symbol.TheVariants.{Version, Semicolon
 use Rattle.dts_tree.specs.Symbol.{is_word, is_label_word, is_property_word, is_bytes_word}
 use Rattle.dts_tree.specs.Grammar.{Told, Is, IsWord, Cells, Bytes, Part, Value, Opening, Members, Items, File}
 use Rattle.dts_tree.specs.Grammar as grammar
-use Rattle.dts_tree.specs.Rest.{Then, Inside, ValueThen, PartThen, OpeningThen, NodeThen, MemberThen, Rest, Follows}
+use Rattle.dts_tree.specs.Inside.Rest.{Then, Inside, ValueThen, PartThen, OpeningThen, NodeThen, MemberThen, Rest, Follows}
 
 -- a turn that may name the token's own place
 follows_at : (Others : List Told → Type 0) (symbol : Symbol) (turn : ℕ → Turn) (at : ℕ) → ((t : Told) (ts : List Told) → t.symbol ≡ symbol → Others (t ∷ ts) ↔ ((t.says ≡ (turn t.at).step) × Rest (turn t.at).place (turn t.at).depth ts)) → Follows Others symbol at (Some (turn at))

@@ -1,16 +1,9 @@
-pub mod Firsts
 pub mod Grammar
-pub mod Known
+pub mod Inside
 pub mod Names
-pub mod Numbered
-pub mod Order
 pub mod Outline
 pub mod Path
-pub mod Phandles
-pub mod Reader
 pub mod Reading
-pub mod Rename
-pub mod Rest
 pub mod Saying
 pub mod Settled
 pub mod Shape
@@ -19,4 +12,3 @@ pub mod TextReading
 pub mod Tree
 pub mod TreeValues
 pub mod Value
-pub mod Within

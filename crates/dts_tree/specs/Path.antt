@@ -1,5 +1,5 @@
 -- Paths of nodes, and their numbers in a list.
-use Rattle.std.specs.Prelude.{ℕ, List, [], ◌∷◌, ◌++◌, Bool, nat_lt, length, if◌then◌else◌, slice_index_or}
+use Rattle.std.specs.Prelude.{ℕ, List, [], ◌∷◌, ◌++◌, Bool, nat_lt, length, if◌then◌else◌}
 use Rattle.std.specs.List.{position_or_len}
 use Rattle.std.specs.Cmp.Lexicographic.{pointwise}
 
@@ -11,12 +11,3 @@ number_of eq paths path = position_or_len (pointwise eq path) paths
 -- the paths, and this one last where it isn't among them
 abbrev pub with_path : {N : Type 0} → (N → N → Bool) → List (List N) → List N → List (List N)
 with_path eq paths path = if nat_lt (number_of eq paths path) (length paths) then paths else paths ++ path ∷ []
-
--- behind the paths those of nodes that are told by their parent's number and their name
-abbrev pub paths_behind : List (List ℕ) → List (ℕ × ℕ) → List (List ℕ)
-paths_behind paths [] = paths
-paths_behind paths (k ∷ ks) = paths_behind (paths ++ (k.1 ∷ slice_index_or paths k.0 []) ∷ []) ks
-
--- the paths of the root and of such nodes
-unfoldable pub paths_of : List (ℕ × ℕ) → List (List ℕ)
-paths_of keys = paths_behind ([] ∷ []) keys

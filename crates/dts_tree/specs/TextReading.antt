@@ -5,16 +5,13 @@ use Rattle.std.specs.Map.{lookup}
 use Rattle.std.specs.Str.{bytes_eq}
 use Rattle.dts_lex.specs.declared.token.Token.{Token}
 use Rattle.dts_tree.specs.declared.step.Step.{Step}
-use Rattle.dts_tree.specs.declared.reader.Reader.{Reader}
 use Rattle.dts_tree.specs.declared.fault.TreeFault.{TreeFault}
 use Rattle.dts_tree.specs.declared.fault.TreeFault.TheVariants as fault
 use Rattle.dts_tree.specs.declared.outline.OutlineFault.{OutlineFault}
 use Rattle.dts_tree.specs.declared.outline.OutlineFault.TheVariants.{Syntax, NotSupported}
-use Rattle.dts_tree.specs.Names.{name_of, name_at}
+use Rattle.dts_tree.specs.Names.{name_of}
 use Rattle.dts_tree.specs.Outline.{IsOutline}
-use Rattle.dts_tree.specs.Reader.{reading}
 use Rattle.dts_tree.specs.Reading.{Reading, nothing_read, walked}
-use Rattle.dts_tree.specs.Rename.{reading_by}
 use Rattle.dts_tree.specs.Saying.{said_with, unknown_ref}
 
 -- what steps set, step by step, or the first that is wrong
@@ -50,7 +47,3 @@ outcome_of text tokens steps fault = checked (fault_behind text tokens steps fau
 -- the same of a text
 abbrev pub IsOutcome : List ℕ → List Token → Result (Reading (List ℕ)) TreeFault → Type 0
 IsOutcome text tokens outcome = (steps : List Step) × (fault : Option OutlineFault) × IsOutline text tokens steps fault × (outcome_of text tokens steps fault ≡ outcome)
-
--- what a reader with numbers for names has read
-abbrev pub reading_in : List ℕ → List Token → Reader → Reading (List ℕ)
-reading_in text tokens reader = reading_by (name_at text tokens) (reading reader)

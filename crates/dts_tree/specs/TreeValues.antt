@@ -1,6 +1,6 @@
 -- What callers see of the values in a tree.
 use Rattle.std.specs.Prelude.{◌≡◌, ℕ, ◌<◌, List, [], ◌∷◌, Bool, true, false, not, ◌||◌, Option, Some, None, codes, filter, length, map, nat_eq, nat_lt, if◌then◌else◌}
-use Rattle.std.specs.List.{AllByRecursion, position}
+use Rattle.std.specs.List.{position}
 use Rattle.std.specs.Map.{lookup}
 use Rattle.std.specs.Option.{option_eq}
 use Rattle.std.specs.Str.{bytes_eq}
@@ -14,7 +14,6 @@ use Rattle.dts_tree.specs.declared.value.ValueCell.{ValueCell}
 use Rattle.dts_tree.specs.declared.value.ValueCell.TheVariants.{Number, Ref}
 use Rattle.dts_tree.specs.Names.{name_of}
 use Rattle.dts_tree.specs.Path.{number_of}
-use Rattle.dts_tree.specs.Saying.{is_ref}
 use Rattle.dts_tree.specs.Settled.{same_property}
 use Rattle.dts_tree.specs.Tree.{DeviceTree}
 use Rattle.dts_tree.specs.Value.{EachPart, is_comma, is_greater, is_less, is_text, cells_in, strings_in, number_at}
@@ -26,10 +25,6 @@ node_among t None = length t.nodes
 -- the node of a label; each label that a value names has one
 abbrev pub node_of_label : DeviceTree → List ℕ → ℕ
 node_of_label t label = node_among t (lookup (bytes_eq label) t.labels)
-
--- each reference among these tokens names a node of the tree
-abbrev pub NamesNodes : DeviceTree → List Token → Type 0
-NamesNodes t tokens = AllByRecursion (λ u. is_ref u.kind ≡ true → node_of_label t (name_of t.text u) < length t.nodes) tokens
 
 -- a cell, with its node where it is a reference
 abbrev pub cell_in : DeviceTree → ValueCell → Cell
@@ -79,3 +74,8 @@ has_phandle t n path = option_eq nat_eq (one_number t.text (lookup (same_propert
 abbrev pub target_in : DeviceTree → Cell → Option ℕ
 target_in t (Node node) = if nat_lt node (length t.nodes) then Some node else None
 target_in t (Num n) = position (has_phandle t n) t.nodes
+
+-- a cell is a number, or one of so many nodes
+abbrev pub IsCellBelow : ℕ → Cell → Type 0
+IsCellBelow count (Num n) = Unit {0}
+IsCellBelow count (Node node) = node < count

@@ -3,8 +3,8 @@ ghost use Rattle.std.specs.BTreeMap.{get_by};
 ghost use Rattle.std.specs.Cmp.Lexicographic.{slice_cmp};
 ghost use Rattle.std.specs.Ordering.{nat_cmp};
 ghost use Rattle.std.specs.Str.{bytes_eq};
-ghost use Rattle.dts_tree.specs.Firsts.{found_in, shelf_of};
-ghost use Rattle.dts_tree.specs.Names.{or_else, or_this};
+ghost use Rattle.dts_tree.specs.Inside.Firsts.{found_in, shelf_of};
+ghost use Rattle.dts_tree.specs.Inside.Numbers.{or_else, or_this};
 
 use std::alloc::{AllocError, Global};
 use std::collections::BTreeMap;
@@ -21,7 +21,7 @@ pub(crate) struct Firsts {
 
 impl Firsts {
     /// So many shelves. No name has a number.
-    #[tactic(auto, unfolding(crate::specs::Firsts::found_in))]
+    #[tactic(auto, unfolding(crate::specs::Inside::Firsts::found_in))]
     pub(crate) fn new(alloc: Global, count: usize) -> Result<Firsts, AllocError>
         ensures shelved { IfOk result (λ firsts. length firsts.shelves.items ≡ count) }
         ensures none { IfOk result (λ firsts. (q : List ℕ) → found_in firsts q ≡ None) }
@@ -34,7 +34,7 @@ impl Firsts {
     }
 
     /// The number of a name, where it has one.
-    #[tactic(auto, unfolding(crate::specs::Firsts::found_in))]
+    #[tactic(auto, unfolding(crate::specs::Inside::Firsts::found_in))]
     pub(crate) fn get(&self, name: &[u8]) -> Option<u32>
         ensures { result ≡ found_in self.now name.now }
     {
@@ -49,7 +49,7 @@ impl Firsts {
     }
 
     /// The number of a name, or this one, which it has from now on.
-    #[tactic(auto, unfolding(crate::specs::Firsts::found_in))]
+    #[tactic(auto, unfolding(crate::specs::Inside::Firsts::found_in))]
     pub(crate) fn number(&mut self, alloc: Global, name: &[u8], at: u32) -> Result<u32, AllocError>
         requires { 0 < length self.old.shelves.items }
         ensures shelved { length self.new.shelves.items ≡ length self.old.shelves.items }
@@ -80,7 +80,7 @@ fn number_on(
 }
 
 /// The shelf of a name among so many.
-#[tactic(auto, unfolding(crate::specs::Firsts::shelf_of))]
+#[tactic(auto, unfolding(crate::specs::Inside::Firsts::shelf_of))]
 fn shelf_of(count: usize, name: &[u8]) -> usize
     requires { 0 < count }
     ensures shelf { result ≡ shelf_of count name.now }

@@ -1,6 +1,7 @@
 ghost use Rattle.std.specs.Prelude.{◌≡◌, ◌≤◌, ℕ, List, length, map, IfOk};
-ghost use Rattle.dts_tree.specs.Firsts.{found_in};
-ghost use Rattle.dts_tree.specs.Names.{name_of, number_in, first_with, known_before};
+ghost use Rattle.dts_tree.specs.Inside.Firsts.{found_in};
+ghost use Rattle.dts_tree.specs.Names.{name_of};
+ghost use Rattle.dts_tree.specs.Inside.Numbers.{number_in, first_with, known_before};
 
 use crate::firsts::Firsts;
 use crate::value::{bytes_of, slice_of};

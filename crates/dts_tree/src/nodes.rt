@@ -16,8 +16,7 @@ pub(crate) struct Nodes {
 
 impl Model for Nodes {
     ghost use Rattle.std.specs.Prelude.{List, ℕ};
-    ghost use Rattle.dts_tree.specs.Path.{paths_of};
-    ghost use Rattle.dts_tree.specs.Numbered.{Numbered, keys_of, depths_of};
+    ghost use Rattle.dts_tree.specs.Inside.Numbered.{paths_of, Numbered, keys_of, depths_of};
 
     ghost Value = { List (List ℕ) };
 

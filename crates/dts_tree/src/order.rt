@@ -1,6 +1,6 @@
 ghost use Rattle.std.specs.Prelude.{◌≡◌, ℕ, ◌<◌, ◌≤◌, ◌+◌, ◌-◌, ◌^◌, ◌++◌, length, IfOk, OnOk, slice_index};
-ghost use Rattle.dts_tree.specs.Reader.{AllBelow};
-ghost use Rattle.dts_tree.specs.Order.{Linked, in_tree_order, listed};
+ghost use Rattle.dts_tree.specs.Inside.Reader.{AllBelow};
+ghost use Rattle.dts_tree.specs.Inside.Order.{Linked, in_tree_order, listed};
 
 use std::alloc::{AllocError, Global};
 

@@ -2,8 +2,8 @@ ghost use Rattle.std.specs.Prelude.{◌≡◌, ◌≤◌, ◌<◌, ◌++◌, ◌
 ghost use Rattle.std.specs.List.{AllByRecursion};
 ghost use Rattle.dts_lex.specs.Lex.{SpansRise};
 ghost use Rattle.dts_tree.specs.Outline.{IsOutline, fault_of, list_of};
-ghost use Rattle.dts_tree.specs.Rest.{Rest};
-ghost use Rattle.dts_tree.specs.Within.{IsStepWithin};
+ghost use Rattle.dts_tree.specs.Inside.Rest.{Rest};
+ghost use Rattle.dts_tree.specs.Inside.Within.{IsStepWithin};
 
 use crate::place::Place;
 use crate::step::Step;

@@ -3,7 +3,7 @@ ghost use Rattle.std.specs.BTreeMap.{get};
 ghost use Rattle.std.specs.List.{position};
 ghost use Rattle.std.specs.Option.{option_eq};
 ghost use Rattle.std.specs.Ordering.{nat_cmp};
-ghost use Rattle.dts_tree.specs.Names.{or_else};
+ghost use Rattle.dts_tree.specs.Inside.Numbers.{or_else};
 ghost use Rattle.dts_tree.specs.Tree.{value_in};
 ghost use Rattle.dts_tree.specs.TreeValues.{has_phandle, one_number, target_in};
 

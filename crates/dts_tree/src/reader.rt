@@ -1,6 +1,6 @@
 ghost use Rattle.std.specs.Prelude.{◌≡◌, ◌≢◌, ◌<◌, ◌≤◌, ◌+◌, ◌-◌, ◌^◌, length, IfOk, IfErr, OnOk, nat_eq};
 ghost use Rattle.dts_tree.specs.Reading.{here, opened, stepped, nothing_read, walked};
-ghost use Rattle.dts_tree.specs.Reader.{reading, Standing, path_at, elsewhere_by_number, with_labels_at};
+ghost use Rattle.dts_tree.specs.Inside.Reader.{reading, Standing, path_at, elsewhere_by_number, with_labels_at};
 ghost use Rattle.dts_tree.specs.declared.said.Said.TheVariants as said;
 
 use crate::fault::TreeFault;

@@ -1,9 +1,10 @@
 ghost use Rattle.std.specs.Prelude.{◌≡◌, ◌≤◌, ◌<◌, ℕ, List, length, map, nat_eq, is_some, not, ◌&&◌, slice_range, IfOk};
 ghost use Rattle.std.specs.List.{AllByRecursion, find};
 ghost use Rattle.std.specs.Map.{lookup};
-ghost use Rattle.dts_tree.specs.Names.{number_in, token_at};
+ghost use Rattle.dts_tree.specs.Inside.Numbers.{number_in};
+ghost use Rattle.dts_tree.specs.Names.{token_at};
 ghost use Rattle.dts_tree.specs.Saying as saying;
-ghost use Rattle.dts_tree.specs.Within.{IsStepWithin};
+ghost use Rattle.dts_tree.specs.Inside.Within.{IsStepWithin};
 
 use crate::said::Said;
 use crate::step::Step;

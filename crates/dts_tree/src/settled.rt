@@ -1,9 +1,10 @@
 ghost use Rattle.std.specs.Prelude.{◌≡◌, ℕ, ◌<◌, ◌≤◌, ◌^◌, [], length, map, IfOk, OnOk, nat_eq, slice_index, slice_index_or};
 ghost use Rattle.std.specs.List.{position_or_len};
 ghost use Rattle.dts_tree.specs.Path.{with_path};
-ghost use Rattle.dts_tree.specs.Reader.{path_at, AllBelow};
+ghost use Rattle.dts_tree.specs.Inside.Reader.{path_at, AllBelow};
 ghost use Rattle.dts_tree.specs.Shape.{tree_order_of, ParentsOf};
-ghost use Rattle.dts_tree.specs.Settled.{IsLayout, IsLed, first_place, values_of, with_value, with_place};
+ghost use Rattle.dts_tree.specs.Inside.Layout.{IsLayout, IsLed, with_place};
+ghost use Rattle.dts_tree.specs.Settled.{first_place, values_of, with_value};
 
 use crate::nodes::Nodes;
 use crate::order::tree_order;

@@ -1,15 +1,15 @@
 ghost use Rattle.std.specs.Prelude.{◌≡◌, ◌≢◌, ◌≤◌, ◌<◌, ◌+◌, ◌^◌, ℕ, List, length, map, nat_eq, slice_index, IfOk, IfErr};
 ghost use Rattle.std.specs.List.{AllByRecursion};
 ghost use Rattle.dts_lex.specs.Lex.{SpansRise};
-ghost use Rattle.dts_tree.specs.Firsts.{found_in};
-ghost use Rattle.dts_tree.specs.Known.{SetsLabelled};
-ghost use Rattle.dts_tree.specs.Names.{first_with, known_before, number_in};
-ghost use Rattle.dts_tree.specs.Reader.{reading, Standing};
+ghost use Rattle.dts_tree.specs.Inside.Firsts.{found_in};
+ghost use Rattle.dts_tree.specs.Inside.Known.{SetsLabelled};
+ghost use Rattle.dts_tree.specs.Inside.Numbers.{first_with, known_before, number_in};
+ghost use Rattle.dts_tree.specs.Inside.Reader.{reading, Standing};
 ghost use Rattle.dts_tree.specs.Reading.{nothing_read, walked};
 ghost use Rattle.dts_tree.specs.Saying.{said_with};
-ghost use Rattle.dts_tree.specs.TextReading.{IsOutcome, fault_behind, reading_in, tree_fault};
-ghost use Rattle.dts_tree.specs.Tree.{AreNamed};
-ghost use Rattle.dts_tree.specs.Within.{IsStepWithin};
+ghost use Rattle.dts_tree.specs.TextReading.{IsOutcome, fault_behind, tree_fault};
+ghost use Rattle.dts_tree.specs.Inside.Kept.{reading_in, AreNamed};
+ghost use Rattle.dts_tree.specs.Inside.Within.{IsStepWithin};
 
 use crate::fault::TreeFault;
 use crate::names::{Names, names_of};

@@ -1,6 +1,6 @@
 ghost use Rattle.std.specs.Prelude.{◌≡◌, ◌<◌, ◌≤◌, ◌^◌, ℕ, List, [], length, slice_index, slice_index_or, slice_range, IfOk, IfErr, IfSome};
-ghost use Rattle.dts_tree.specs.Firsts.{found_in};
-ghost use Rattle.dts_tree.specs.Names.{first_with, known_before};
+ghost use Rattle.dts_tree.specs.Inside.Firsts.{found_in};
+ghost use Rattle.dts_tree.specs.Inside.Numbers.{first_with, known_before};
 ghost use Rattle.dts_tree.specs.Tree.{own_name, parent_among};
 
 use crate::fault::TreeFault;
@@ -57,9 +57,10 @@ impl Drop for Tree {
 impl Model for Tree {
     ghost use Rattle.std.specs.BTreeMap.{get};
     ghost use Rattle.std.specs.Ordering.{nat_cmp};
-    ghost use Rattle.dts_tree.specs.Firsts.{found_in};
-    ghost use Rattle.dts_tree.specs.Phandles.{first_of_noted};
-    ghost use Rattle.dts_tree.specs.Tree.{DeviceTree, kept_tree, Settled};
+    ghost use Rattle.dts_tree.specs.Inside.Firsts.{found_in};
+    ghost use Rattle.dts_tree.specs.Inside.Phandles.{first_of_noted};
+    ghost use Rattle.dts_tree.specs.Tree.{DeviceTree};
+    ghost use Rattle.dts_tree.specs.Inside.Kept.{kept_tree, Settled};
 
     ghost Value = { DeviceTree };
 
@@ -70,10 +71,10 @@ impl Model for Tree {
 
 impl Tree {
     ghost use Rattle.std.specs.List.{AllByRecursion};
-    ghost use Rattle.dts_tree.specs.Known.{SetsLabelled};
-    ghost use Rattle.dts_tree.specs.Reader.{Standing};
-    ghost use Rattle.dts_tree.specs.TextReading.{reading_in};
-    ghost use Rattle.dts_tree.specs.Tree.{tree_of, AreNamed};
+    ghost use Rattle.dts_tree.specs.Inside.Known.{SetsLabelled};
+    ghost use Rattle.dts_tree.specs.Inside.Reader.{Standing};
+    ghost use Rattle.dts_tree.specs.Inside.Kept.{reading_in, AreNamed};
+    ghost use Rattle.dts_tree.specs.Tree.{tree_of};
 
     /// The tree of what was read of a text, with its phandles noted.
     pub(crate) fn of_reader(
@@ -193,7 +194,8 @@ impl Tree {
 impl Tree {
     ghost use Rattle.std.specs.Prelude.{None, Some, MatchOption};
     ghost use Rattle.dts_tree.specs.Tree.{value_in};
-    ghost use Rattle.dts_tree.specs.TreeValues.{NamesNodes, node_of_label};
+    ghost use Rattle.dts_tree.specs.Inside.Known.{NamesNodes};
+    ghost use Rattle.dts_tree.specs.TreeValues.{node_of_label};
 
     pub(crate) fn text(&self) -> &[u8]
         ensures { result.now ≡ self.now.text }

@@ -1,9 +1,8 @@
 ghost use Rattle.std.specs.Prelude.{◌≡◌, ◌<◌, length, map, is_some, IfOk, IfSome};
 ghost use Rattle.std.specs.Option.{option_map};
 ghost use Rattle.std.specs.List.{AllByRecursion};
-ghost use Rattle.dts_tree.specs.Known.{IsCellBelow};
+ghost use Rattle.dts_tree.specs.TreeValues.{IsCellBelow, AreCells, AreStrings, cell_in};
 ghost use Rattle.dts_tree.specs.Tree.{value_in};
-ghost use Rattle.dts_tree.specs.TreeValues.{AreCells, AreStrings, cell_in};
 
 use crate::cell::Cell;
 use crate::names::name_of;

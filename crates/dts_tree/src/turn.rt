@@ -1,6 +1,6 @@
 ghost use Rattle.std.specs.Prelude.{◌≡◌, ◌≤◌, ◌<◌, ◌+◌, IfSome};
-ghost use Rattle.dts_tree.specs.Rest.{Follows, Rest};
-ghost use Rattle.dts_tree.specs.Within.{IsFew, IsPlaceWithin, IsTurnWithin};
+ghost use Rattle.dts_tree.specs.Inside.Rest.{Follows, Rest};
+ghost use Rattle.dts_tree.specs.Inside.Within.{IsFew, IsPlaceWithin, IsTurnWithin};
 
 use crate::place::Place;
 use crate::step::Step;

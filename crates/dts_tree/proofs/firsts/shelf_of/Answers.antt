@@ -1,7 +1,7 @@
 use Rattle.std.proofs.Common.{ℕ, ◌∙◌, ◌+◌, ◌*◌, ◌%◌, ap, fold, arith}
 use Rattle.std.proofs.lemmas.List.{take_all}
 use Rattle.std.proofs.lemmas.List.Sums.{fold_more}
-use Rattle.dts_tree.specs.Firsts.{shelf_of}
+use Rattle.dts_tree.specs.Inside.Firsts.{shelf_of}
 use Rattle.dts_tree.proofs.firsts.shelf_of.Goals as goal
 
 abbrev hashed : ℕ → ℕ → ℕ

@@ -3,8 +3,9 @@ use Rattle.std.specs.Str.{bytes_eq}
 use Rattle.dts_lex.specs.declared.token.Token.{Token}
 use Rattle.dts_lex.specs.declared.token.Kind.TheVariants as kind
 use Rattle.std.proofs.lemmas.Result.{IfOk-from_err}
-use Rattle.dts_tree.specs.Firsts.{found_in}
-use Rattle.dts_tree.specs.Names.{name_of, number_in, or_else, or_this}
+use Rattle.dts_tree.specs.Inside.Firsts.{found_in}
+use Rattle.dts_tree.specs.Names.{name_of}
+use Rattle.dts_tree.specs.Inside.Numbers.{number_in, or_else, or_this}
 use Rattle.dts_tree.proofs.NamesLemmas.{known_more, number_here, map_more}
 use Rattle.std.proofs.lemmas.List.{take_all}
 use Rattle.dts_tree.proofs.names.names_of.Goals as goal

@@ -1,6 +1,6 @@
 use Rattle.std.proofs.Common.{◌≡◌, ◌<◌, ◌≤◌, ◌-◌, ℕ, List, length, map, take}
-use Rattle.dts_tree.specs.Firsts.{found_in}
-use Rattle.dts_tree.specs.Names.{number_in, first_with, known_before}
+use Rattle.dts_tree.specs.Inside.Firsts.{found_in}
+use Rattle.dts_tree.specs.Inside.Numbers.{number_in, first_with, known_before}
 use Rattle.dts_tree.proofs.names.names_of.Given as goal
 
 abbrev pub invariant-loop-at : goal.invariant-loop-at

@@ -1,7 +1,7 @@
 use Rattle.std.proofs.Common.{◌≡◌, ◌∷◌, ◌++◌, ◌∙◌, ◌<◌, ap, [], List, ℕ, None, length, reverse, arith}
 use Rattle.std.proofs.lemmas.List.{get_or_read}
 use Rattle.std.proofs.lemmas.Result.{IfOk-from_err}
-use Rattle.dts_tree.specs.Order.{listed, first_of, children_from, siblings_after, in_tree_order, Linked}
+use Rattle.dts_tree.specs.Inside.Order.{listed, first_of, children_from, siblings_after, in_tree_order, Linked}
 use Rattle.dts_tree.proofs.OrderLemmas.{all_below-append, pending-step, inside-step, reverse-puts, pending-root, walk-left, reverse-taken, waits_after}
 use Rattle.dts_tree.proofs.order.tree_order.Goals as goal
 

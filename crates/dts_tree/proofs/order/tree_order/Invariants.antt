@@ -1,6 +1,6 @@
 use Rattle.std.proofs.Common.{◌≡◌, ◌++◌, length, reverse}
-use Rattle.dts_tree.specs.Order.{in_tree_order}
-use Rattle.dts_tree.specs.Reader.{AllBelow}
+use Rattle.dts_tree.specs.Inside.Order.{in_tree_order}
+use Rattle.dts_tree.specs.Inside.Reader.{AllBelow}
 use Rattle.dts_tree.proofs.OrderLemmas.{Inside, pending}
 use Rattle.dts_tree.proofs.order.tree_order.Given as goal
 

@@ -1,6 +1,6 @@
 use Rattle.std.proofs.Common.{◌≤◌, ◌-◌, ◌+◌, length, take}
 use Rattle.std.specs.List.{AllByRecursion}
-use Rattle.dts_tree.specs.Within.{IsStepWithin, IsPlaceWithin, silent}
+use Rattle.dts_tree.specs.Inside.Within.{IsStepWithin, IsPlaceWithin, silent}
 use Rattle.dts_tree.proofs.OutlineLemmas.{ReadTo}
 use Rattle.dts_tree.proofs.outline.outline_of.Given as goal
 

@@ -1,7 +1,7 @@
 use Rattle.std.proofs.Common.{arith}
 use Rattle.std.proofs.lemmas.Result.{IfOk-weaker, IfOk-from_err}
 use Rattle.dts_tree.proofs.ExitLemmas.{passed_on, unless_memory}
-use Rattle.dts_tree.specs.TextReading.{reading_in}
+use Rattle.dts_tree.specs.Inside.Kept.{reading_in}
 use Rattle.dts_tree.proofs.parser.parse.Goals as goal
 
 pub reading_of-requires-clause-spans : goal.reading_of-requires-clause-spans

@@ -3,7 +3,7 @@ use Rattle.std.proofs.lemmas.List.{take_all}
 use Rattle.std.proofs.lemmas.List.Sums.{fold_more}
 use Rattle.ordered_map.specs.Entries.{insert_entry}
 use Rattle.std.proofs.lemmas.Result.{IfOk-from_err}
-use Rattle.dts_tree.specs.Reader.{with_labels_at}
+use Rattle.dts_tree.specs.Inside.Reader.{with_labels_at}
 use Rattle.dts_tree.proofs.reader.put_labels.Goals as goal
 
 pub loop-label-preserved : goal.loop-label-preserved

@@ -1,5 +1,5 @@
 use Rattle.std.proofs.Common.{◌≡◌, take}
-use Rattle.dts_tree.specs.Reader.{with_labels_at}
+use Rattle.dts_tree.specs.Inside.Reader.{with_labels_at}
 use Rattle.dts_tree.proofs.reader.put_labels.Given as goal
 
 abbrev pub invariant-loop-label : goal.invariant-loop-label

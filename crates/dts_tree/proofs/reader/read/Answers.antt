@@ -3,7 +3,7 @@ use Rattle.std.proofs.lemmas.List.{drop_more, drop_all}
 use Rattle.std.proofs.lemmas.Result.{err_from_is_err_and}
 use Rattle.dts_tree.specs.declared.said.Said.TheVariants.{Label}
 use Rattle.dts_tree.specs.Reading.{walked}
-use Rattle.dts_tree.specs.Reader.{reading}
+use Rattle.dts_tree.specs.Inside.Reader.{reading}
 use Rattle.dts_tree.proofs.ReaderLemmas.{walked-ok, walked-fault, walked-end, nothing_read-paths}
 use Rattle.dts_tree.proofs.reader.read.Goals as goal
 

@@ -1,6 +1,6 @@
 use Rattle.std.proofs.Common.{◌≡◌, ◌≤◌, ◌+◌, length, drop, nat_eq}
 use Rattle.dts_tree.specs.Reading.{walked, nothing_read}
-use Rattle.dts_tree.specs.Reader.{reading, Standing}
+use Rattle.dts_tree.specs.Inside.Reader.{reading, Standing}
 use Rattle.dts_tree.proofs.reader.read.Given as goal
 
 abbrev pub invariant-loop-said : goal.invariant-loop-said

@@ -2,9 +2,9 @@ use Rattle.std.proofs.Common.{◌+◌, ◌∙◌, ap, length, map, arith}
 use Rattle.std.proofs.lemmas.List.{length_push, take_all}
 use Rattle.std.proofs.lemmas.Result.{IfOk-from_err}
 use Rattle.dts_tree.specs.declared.step.Step.TheVariants.{Label}
-use Rattle.dts_tree.specs.Names.{number_in}
+use Rattle.dts_tree.specs.Inside.Numbers.{number_in}
 use Rattle.dts_tree.specs.Saying.{said_with}
-use Rattle.dts_tree.specs.Within.{IsStepWithin}
+use Rattle.dts_tree.specs.Inside.Within.{IsStepWithin}
 use Rattle.dts_tree.proofs.NamesLemmas.{map_more}
 use Rattle.dts_tree.proofs.SayingLemmas.{each_at}
 use Rattle.dts_tree.proofs.saying.sayings.Goals as goal

@@ -2,7 +2,8 @@ use Rattle.std.proofs.Common.{◌∙◌, ◌&&◌, not, ap, sym, arith, get_or}
 use Rattle.std.specs.Prelude.{nat_eq, is_some}
 use Rattle.std.specs.Map.{lookup}
 use Rattle.dts_lex.specs.declared.token.Token.{Token}
-use Rattle.dts_tree.specs.Names.{blank, number_in}
+use Rattle.dts_tree.specs.Names.{blank}
+use Rattle.dts_tree.specs.Inside.Numbers.{number_in}
 use Rattle.dts_tree.specs.Saying.{is_ref, is_unknown}
 use Rattle.dts_tree.proofs.SayingLemmas.{number_at_place, found_here, found_later}
 use Rattle.dts_tree.proofs.saying.unknown_between.Goals as goal

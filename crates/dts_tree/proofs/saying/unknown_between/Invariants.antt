@@ -2,7 +2,7 @@ use Rattle.std.proofs.Common.{◌≡◌, ◌≤◌, ◌-◌, ℕ, List, map}
 use Rattle.std.specs.Prelude.{nat_eq, is_some, slice_range}
 use Rattle.std.specs.Map.{lookup}
 use Rattle.std.specs.List.{find}
-use Rattle.dts_tree.specs.Names.{number_in}
+use Rattle.dts_tree.specs.Inside.Numbers.{number_in}
 use Rattle.dts_tree.specs.Saying.{is_unknown}
 use Rattle.dts_tree.proofs.saying.unknown_between.Given as goal
 

@@ -2,7 +2,7 @@ use Rattle.std.proofs.Common.{◌∙◌, sym, arith}
 use Rattle.std.specs.Prelude.{nat_eq, is_some}
 use Rattle.std.specs.Map.{lookup}
 use Rattle.dts_tree.specs.declared.step.Step.TheVariants.{Label}
-use Rattle.dts_tree.specs.Names.{number_in}
+use Rattle.dts_tree.specs.Inside.Numbers.{number_in}
 use Rattle.dts_tree.proofs.SayingLemmas.{unknown_here, unknown_later, unknown_nowhere}
 use Rattle.dts_tree.proofs.saying.unknown_ref.Goals as goal
 

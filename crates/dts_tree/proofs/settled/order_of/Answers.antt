@@ -1,9 +1,9 @@
 use Rattle.std.proofs.Common.{◌≡◌, ◌∙◌, ℕ, ap, map, length}
 use Rattle.std.proofs.lemmas.Result.{IfOk-weaker, IfOk-from_err}
 use Rattle.dts_tree.proofs.ExitLemmas.{IfOk-both}
-use Rattle.dts_tree.specs.Reader.{AllBelow, path_at}
+use Rattle.dts_tree.specs.Inside.Reader.{AllBelow, path_at}
 use Rattle.std.specs.Global.{Vec}
-use Rattle.dts_tree.specs.Order.{in_tree_order}
+use Rattle.dts_tree.specs.Inside.Order.{in_tree_order}
 use Rattle.dts_tree.proofs.ShapeLemmas.{order-paths}
 use Rattle.dts_tree.proofs.LedLemmas.{led-nodes, long-nodes, nodes-seen}
 use Rattle.dts_tree.proofs.settled.order_of.Goals as goal

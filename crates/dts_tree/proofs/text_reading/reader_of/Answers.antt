@@ -2,7 +2,7 @@ use Rattle.std.proofs.Common.{◌∙◌, None, Some, length, map, sym, ap, arith
 use Rattle.std.specs.Prelude.{nat_eq}
 use Rattle.std.proofs.lemmas.List.{length-map}
 use Rattle.std.proofs.lemmas.Result.{IfOk-from_err}
-use Rattle.dts_tree.specs.Names.{number_in}
+use Rattle.dts_tree.specs.Inside.Numbers.{number_in}
 use Rattle.dts_tree.specs.Reading.{nothing_read, walked}
 use Rattle.dts_tree.specs.Saying.{said_with}
 use Rattle.dts_tree.proofs.ExitLemmas.{passed_on, unless_memory}

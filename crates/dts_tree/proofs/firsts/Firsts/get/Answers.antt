@@ -1,7 +1,7 @@
 use Rattle.std.proofs.Common.{◌∙◌, ap, sym, refl, length, arith}
 use Rattle.std.specs.List.{slice_get}
 use Rattle.std.proofs.lemmas.Option.{slice_get_read, slice_get_past}
-use Rattle.dts_tree.specs.Firsts.{found_in, found_on, shelf_of}
+use Rattle.dts_tree.specs.Inside.Firsts.{found_in, found_on, shelf_of}
 use Rattle.dts_tree.proofs.firsts.Firsts.get.Goals as goal
 
 pub returns-then-count-eq0 : goal.returns-then-count-eq0

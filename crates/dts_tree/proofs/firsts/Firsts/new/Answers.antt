@@ -1,6 +1,6 @@
 use Rattle.std.proofs.lemmas.Result.{IfOk-from_err}
 use Rattle.std.proofs.Common.{length}
-use Rattle.dts_tree.specs.Firsts.{found_in, shelf_of}
+use Rattle.dts_tree.specs.Inside.Firsts.{found_in, shelf_of}
 use Rattle.dts_tree.proofs.firsts.Firsts.new.Goals as goal
 
 pub returns-in_err-push : goal.returns-in_err-push

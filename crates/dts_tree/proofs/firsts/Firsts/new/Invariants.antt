@@ -1,6 +1,6 @@
 use Rattle.std.proofs.Common.{◌≡◌, ◌≤◌, ◌-◌, ℕ, List, None, length}
 use Rattle.std.specs.List.{slice_get}
-use Rattle.dts_tree.specs.Firsts.{found_on}
+use Rattle.dts_tree.specs.Inside.Firsts.{found_on}
 use Rattle.dts_tree.proofs.firsts.Firsts.new.Given as goal
 
 abbrev pub invariant-loop-alloc : goal.invariant-loop-alloc

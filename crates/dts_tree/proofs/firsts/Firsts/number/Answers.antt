@@ -2,8 +2,8 @@ use Rattle.std.proofs.Common.{◌≡◌, ◌∙◌, ◌<◌, length, ap, refl, a
 use Rattle.std.proofs.lemmas.Option.{slice_get_read}
 use Rattle.std.proofs.lemmas.Result.{on_ok_weaker, IfOk-weaker}
 use Rattle.std.specs.List.{slice_get}
-use Rattle.dts_tree.specs.Names.{or_this}
-use Rattle.dts_tree.specs.Firsts.{found_in, shelf_of, found_on}
+use Rattle.dts_tree.specs.Inside.Numbers.{or_this}
+use Rattle.dts_tree.specs.Inside.Firsts.{found_in, shelf_of, found_on}
 use Rattle.dts_tree.proofs.FirstsLemmas.{found_more}
 use Rattle.dts_tree.proofs.firsts.Firsts.number.Goals as goal
 

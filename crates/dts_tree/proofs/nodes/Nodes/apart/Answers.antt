@@ -1,7 +1,6 @@
 use Rattle.std.proofs.Common.{◌≡◌, ◌<◌, List, ℕ, [], length, subst, nat_eq, get_or}
 use Rattle.std.specs.Cmp.Lexicographic.{pointwise}
-use Rattle.dts_tree.specs.Path.{paths_of}
-use Rattle.dts_tree.specs.Numbered.{keys_of}
+use Rattle.dts_tree.specs.Inside.Numbered.{paths_of, keys_of}
 use Rattle.dts_tree.proofs.NumberedLemmas.{path_eq-numbers}
 use Rattle.dts_tree.proofs.nodes.Nodes.apart.Goals as goal
 

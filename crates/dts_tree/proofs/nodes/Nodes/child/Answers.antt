@@ -2,8 +2,7 @@ use Rattle.std.proofs.Common.{◌≡◌, ◌<◌, ◌+◌, ◌∙◌, ◌∷◌,
 use Rattle.std.specs.Cmp.Lexicographic.{pointwise}
 use Rattle.std.proofs.lemmas.List.{length-map, map-append}
 use Rattle.ordered_map.specs.Entries.{place_of}
-use Rattle.dts_tree.specs.Path.{paths_of}
-use Rattle.dts_tree.specs.Numbered.{same_key, keys_of}
+use Rattle.dts_tree.specs.Inside.Numbered.{paths_of, same_key, keys_of}
 use Rattle.dts_tree.proofs.NumberedLemmas.{path_eq-numbers, numbered-child, child_known, child_new, nowhere, place-position, paths_of-push}
 use Rattle.dts_tree.proofs.nodes.Nodes.child.Goals as goal
 

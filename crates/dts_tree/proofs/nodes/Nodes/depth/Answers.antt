@@ -1,7 +1,6 @@
 use Rattle.std.proofs.Common.{◌<◌, ◌-◌, length, sym, arith}
 use Rattle.std.proofs.lemmas.List.{length-map}
-use Rattle.dts_tree.specs.Path.{paths_of}
-use Rattle.dts_tree.specs.Numbered.{keys_of}
+use Rattle.dts_tree.specs.Inside.Numbered.{paths_of, keys_of}
 use Rattle.dts_tree.proofs.NumberedLemmas.{depth-child, some-at}
 use Rattle.dts_tree.proofs.nodes.Nodes.depth.Goals as goal
 

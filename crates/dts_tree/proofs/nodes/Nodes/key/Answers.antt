@@ -1,8 +1,7 @@
 use Rattle.std.proofs.Common.{◌≡◌, ◌<◌, ◌-◌, List, ℕ, [], length, subst, nat_eq, get_or, sym, arith}
 use Rattle.std.specs.Cmp.Lexicographic.{pointwise}
 use Rattle.std.proofs.lemmas.List.{length-map}
-use Rattle.dts_tree.specs.Path.{paths_of}
-use Rattle.dts_tree.specs.Numbered.{keys_of}
+use Rattle.dts_tree.specs.Inside.Numbered.{paths_of, keys_of}
 use Rattle.dts_tree.proofs.NumberedLemmas.{path_eq-numbers, key-child, some-at}
 use Rattle.dts_tree.proofs.nodes.Nodes.key.Goals as goal
 

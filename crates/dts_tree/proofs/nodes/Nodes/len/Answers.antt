@@ -1,8 +1,7 @@
 use Rattle.std.proofs.Common.{◌≡◌, ◌<◌, List, ℕ, [], length, subst, nat_eq, get_or, ap, arith}
 use Rattle.std.specs.Cmp.Lexicographic.{pointwise}
 use Rattle.std.proofs.lemmas.List.{length-map}
-use Rattle.dts_tree.specs.Path.{paths_of}
-use Rattle.dts_tree.specs.Numbered.{keys_of}
+use Rattle.dts_tree.specs.Inside.Numbered.{paths_of, keys_of}
 use Rattle.dts_tree.proofs.NumberedLemmas.{path_eq-numbers}
 use Rattle.dts_tree.proofs.nodes.Nodes.len.Goals as goal
 

@@ -1,5 +1,5 @@
 use Rattle.std.proofs.Common.{refl}
-use Rattle.dts_tree.specs.Path.{paths_of}
+use Rattle.dts_tree.specs.Inside.Numbered.{paths_of}
 use Rattle.dts_tree.proofs.NumberedLemmas.{numbered_root}
 use Rattle.dts_tree.proofs.nodes.Nodes.new.Goals as goal
 

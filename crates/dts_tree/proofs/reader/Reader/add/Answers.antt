@@ -4,7 +4,7 @@ use Rattle.std.specs.Option.{option_map}
 use Rattle.std.proofs.lemmas.Result.{IfOk-from_err}
 use Rattle.dts_tree.proofs.ExitLemmas.{unless_memory}
 use Rattle.dts_tree.specs.Reading.{added}
-use Rattle.dts_tree.specs.Reader.{reading, path_at}
+use Rattle.dts_tree.specs.Inside.Reader.{reading, path_at}
 use Rattle.dts_tree.proofs.ReaderLemmas.{lookup-labels, lookup-below}
 use Rattle.dts_tree.proofs.reader.Reader.add.Goals as goal
 

@@ -1,6 +1,6 @@
 use Rattle.std.proofs.Common.{◌+◌, ◌∙◌, Some, None, ap, sym, refl, length, drop, arith}
 use Rattle.std.proofs.lemmas.List.{at_drop_all}
-use Rattle.dts_tree.specs.Reader.{elsewhere_by_number}
+use Rattle.dts_tree.specs.Inside.Reader.{elsewhere_by_number}
 use Rattle.dts_tree.proofs.ReaderLemmas.{elsewhere-here, elsewhere-later}
 use Rattle.dts_tree.proofs.reader.Reader.elsewhere.Goals as goal
 use Rattle.dts_tree.proofs.reader.Reader.elsewhere.Goals.{in-Some+else-ne, in_default}

@@ -1,5 +1,5 @@
 use Rattle.std.proofs.Common.{◌≡◌, drop}
-use Rattle.dts_tree.specs.Reader.{elsewhere_by_number}
+use Rattle.dts_tree.specs.Inside.Reader.{elsewhere_by_number}
 use Rattle.dts_tree.proofs.reader.Reader.elsewhere.Given as goal
 
 abbrev pub invariant-loop-label : goal.invariant-loop-label

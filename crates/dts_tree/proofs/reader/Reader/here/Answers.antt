@@ -1,7 +1,7 @@
 use Rattle.std.proofs.Common.{◌≡◌, ◌∷◌, ◌-◌, ap, sym, length, map, reverse, take, arith}
 use Rattle.std.proofs.lemmas.Option.{slice_get_within}
 use Rattle.dts_tree.specs.Reading.{here}
-use Rattle.dts_tree.specs.Reader.{path_at}
+use Rattle.dts_tree.specs.Inside.Reader.{path_at}
 use Rattle.dts_tree.proofs.NumberedLemmas.{none_long}
 use Rattle.dts_tree.proofs.ReaderLemmas.{last_first}
 use Rattle.dts_tree.proofs.reader.Reader.here.Goals as goal

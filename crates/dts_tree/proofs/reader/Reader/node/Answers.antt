@@ -3,7 +3,7 @@ use Rattle.std.proofs.lemmas.Bool.{cond-true, cond-false, le-leb, lt-leb}
 use Rattle.std.proofs.lemmas.Result.{on_ok_weaker, IfOk-from_err}
 use Rattle.dts_tree.proofs.ExitLemmas.{unless_memory}
 use Rattle.dts_tree.specs.Reading.{elsewhere, node_opened, opened}
-use Rattle.dts_tree.specs.Reader.{reading, label_at}
+use Rattle.dts_tree.specs.Inside.Reader.{reading, label_at}
 use Rattle.dts_tree.specs.declared.fault.TreeFault.TheVariants.{TooDeep}
 use Rattle.dts_tree.proofs.ReaderLemmas.{Grown, grown, deep-elsewhere, shallow-elsewhere, standing-grown, labels-grown, opened-grown, all_below-wider}
 use Rattle.dts_tree.proofs.reader.Reader.node.Goals as goal

@@ -2,7 +2,7 @@ use Rattle.std.proofs.Common.{◌≡◌, ◌∷◌, ◌∙◌, [], ap, length, r
 use Rattle.std.proofs.lemmas.List.{reverse-append}
 use Rattle.std.proofs.lemmas.Result.{IfOk-from_err}
 use Rattle.dts_tree.proofs.ExitLemmas.{at_memory}
-use Rattle.dts_tree.specs.Reader.{node_of, with_labels_at}
+use Rattle.dts_tree.specs.Inside.Reader.{node_of, with_labels_at}
 use Rattle.dts_tree.proofs.ReaderLemmas.{all_below-push, put-below, open-reading}
 use Rattle.dts_tree.proofs.reader.Reader.open.Goals as goal
 

@@ -2,7 +2,7 @@ use Rattle.std.proofs.Common.{length, refl}
 use Rattle.std.proofs.lemmas.List.{map-append}
 use Rattle.std.proofs.lemmas.Result.{IfOk-from_err}
 use Rattle.dts_tree.proofs.ExitLemmas.{at_memory}
-use Rattle.dts_tree.specs.Reader.{node_of}
+use Rattle.dts_tree.specs.Inside.Reader.{node_of}
 use Rattle.dts_tree.proofs.ReaderLemmas.{all_below-push}
 use Rattle.dts_tree.proofs.reader.Reader.property.Goals as goal
 

@@ -1,7 +1,7 @@
 use Rattle.std.proofs.Common.{Ok, ◌∙◌, ap, sym, length, nat_eq, arith}
 use Rattle.std.proofs.lemmas.Result.{on_ok_weaker, IfErr-weaker}
 use Rattle.dts_tree.specs.Reading.{opened}
-use Rattle.dts_tree.specs.Reader.{reading}
+use Rattle.dts_tree.specs.Inside.Reader.{reading}
 use Rattle.dts_tree.proofs.reader.Reader.step.Goals as goal
 
 pub returns-in-Root : goal.returns-in-Root

@@ -1,8 +1,7 @@
 use Rattle.std.proofs.Common.{◌∙◌, List, ap, map, sym, subst, length}
 use Rattle.std.specs.List.{AllByRecursion}
 use Rattle.dts_tree.specs.declared.cell.Cell.{Cell}
-use Rattle.dts_tree.specs.Known.{IsCellBelow}
-use Rattle.dts_tree.specs.TreeValues.{cell_in}
+use Rattle.dts_tree.specs.TreeValues.{IsCellBelow, cell_in}
 use Rattle.dts_tree.specs.Value.{cells_in}
 use Rattle.dts_tree.proofs.KnownLemmas.{cells-below}
 use Rattle.dts_tree.proofs.tree.Tree.cells.Goals as goal

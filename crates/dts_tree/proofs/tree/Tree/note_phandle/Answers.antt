@@ -1,7 +1,7 @@
 use Rattle.std.proofs.Common.{◌≡◌, ◌+◌, ◌∙◌, ℕ, [], cond, Option, Some, None, get_or, nat_eq, ap, sym, arith}
 use Rattle.std.specs.Option.{option_eq}
-use Rattle.dts_tree.specs.Names.{or_else}
-use Rattle.dts_tree.specs.Phandles.{first_of_noted}
+use Rattle.dts_tree.specs.Inside.Numbers.{or_else}
+use Rattle.dts_tree.specs.Inside.Phandles.{first_of_noted}
 use Rattle.dts_tree.specs.TreeValues.{has_phandle}
 use Rattle.dts_tree.proofs.TreeLemmas.{tree-count}
 use Rattle.dts_tree.proofs.PhandleLemmas.{position-more}

@@ -1,5 +1,5 @@
 use Rattle.std.proofs.Common.{◌≡◌, ◌<◌, ◌∙◌, Some, ap, sym, length, get_or, arith}
-use Rattle.dts_tree.specs.Reader.{path_at}
+use Rattle.dts_tree.specs.Inside.Reader.{path_at}
 use Rattle.dts_tree.specs.Tree.{parent_among}
 use Rattle.dts_tree.proofs.TreeLemmas.{below-at, tree-inside, tree-root, tree-child, tree-parent}
 use Rattle.dts_tree.proofs.tree.Tree.parent.Goals as goal

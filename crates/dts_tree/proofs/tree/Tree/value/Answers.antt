@@ -1,7 +1,7 @@
 use Rattle.std.proofs.Common.{◌≡◌, ◌<◌, ◌∙◌, Some, ap, sym, length, get_or, arith}
 use Rattle.std.specs.Prelude.{slice_range}
 use Rattle.std.specs.Option.{option_map}
-use Rattle.dts_tree.specs.Known.{AreLabelled}
+use Rattle.dts_tree.specs.Inside.Known.{AreLabelled}
 use Rattle.dts_tree.proofs.KnownLemmas.{lookup-all, refs-below}
 use Rattle.dts_tree.proofs.TreeLemmas.{below-at, tree-inside}
 use Rattle.dts_tree.proofs.TreeLookLemmas.{value_none, value_some}

@@ -1,7 +1,7 @@
 use Rattle.std.proofs.Common.{◌≡◌, ◌∙◌, Some, None, [], ap, sym, nat_eq, arith, below_more}
 use Rattle.std.specs.Option.{option_eq}
 use Rattle.dts_tree.specs.TreeValues.{has_phandle}
-use Rattle.dts_tree.specs.Phandles.{first_of_noted}
+use Rattle.dts_tree.specs.Inside.Phandles.{first_of_noted}
 use Rattle.dts_tree.proofs.TreeLemmas.{tree-count}
 use Rattle.dts_tree.proofs.PhandleLemmas.{front-none, position-front}
 use Rattle.dts_tree.proofs.TreeLookLemmas.{position_at, position_none}

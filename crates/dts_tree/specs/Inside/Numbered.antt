@@ -1,7 +1,16 @@
 -- When parents' numbers and names tell all nodes apart.
-use Rattle.std.specs.Prelude.{◌≡◌, ℕ, ◌+◌, ◌<◌, ◌≤◌, List, [], ◌∷◌, Bool, ◌&&◌, length, map, slice_index_or, nat_eq}
+use Rattle.std.specs.Prelude.{◌≡◌, ℕ, ◌+◌, ◌<◌, ◌≤◌, List, [], ◌∷◌, Bool, ◌&&◌, length, map, slice_index_or, nat_eq, ◌++◌}
 use Rattle.std.specs.List.{position_or_len}
-use Rattle.dts_tree.specs.Path.{number_of, paths_of}
+use Rattle.dts_tree.specs.Path.{number_of}
+
+-- behind the paths those of nodes that are told by their parent's number and their name
+abbrev pub paths_behind : List (List ℕ) → List (ℕ × ℕ) → List (List ℕ)
+paths_behind paths [] = paths
+paths_behind paths (k ∷ ks) = paths_behind (paths ++ (k.1 ∷ slice_index_or paths k.0 []) ∷ []) ks
+
+-- the paths of the root and of such nodes
+unfoldable pub paths_of : List (ℕ × ℕ) → List (List ℕ)
+paths_of keys = paths_behind ([] ∷ []) keys
 
 -- the keys of nodes that are told by their parent's number and their name, with their depths
 abbrev pub keys_of : List ((ℕ × ℕ) × ℕ) → List (ℕ × ℕ)

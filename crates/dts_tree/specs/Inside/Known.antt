@@ -1,14 +1,15 @@
 -- References in values name labels.
-use Rattle.std.specs.Prelude.{◌≡◌, ℕ, ◌<◌, List, Bool, false, is_some, nat_eq, slice_range}
+use Rattle.std.specs.Prelude.{◌≡◌, ℕ, ◌<◌, List, Bool, false, is_some, nat_eq, slice_range, true, length}
 use Rattle.std.specs.List.{AllByRecursion}
 use Rattle.std.specs.Map.{lookup}
 use Rattle.dts_lex.specs.declared.token.Token.{Token}
-use Rattle.dts_tree.specs.declared.cell.Cell.{Cell}
-use Rattle.dts_tree.specs.declared.cell.Cell.TheVariants.{Num, Node}
 use Rattle.dts_tree.specs.declared.setting.Setting.{Setting}
 use Rattle.dts_tree.specs.declared.setting.Setting.TheVariants.{Opens, Sets}
-use Rattle.dts_tree.specs.Names.{number_in}
-use Rattle.dts_tree.specs.Saying.{is_unknown}
+use Rattle.dts_tree.specs.Inside.Numbers.{number_in}
+use Rattle.dts_tree.specs.Saying.{is_unknown, is_ref}
+use Rattle.dts_tree.specs.Names.{name_of}
+use Rattle.dts_tree.specs.Tree.{DeviceTree}
+use Rattle.dts_tree.specs.TreeValues.{node_of_label}
 
 -- the name of a token is that of one of these labels
 abbrev pub is_labelled : List ℕ → List Token → List (ℕ × ℕ) → Token → Bool
@@ -23,7 +24,6 @@ abbrev pub SetsLabelled : List ℕ → List Token → List (ℕ × ℕ) → Sett
 SetsLabelled text tokens labels (Opens node at) = Unit {0}
 SetsLabelled text tokens labels (Sets node name from to) = AreLabelled text tokens labels (from, to)
 
--- a cell is a number, or one of so many nodes
-abbrev pub IsCellBelow : ℕ → Cell → Type 0
-IsCellBelow count (Num n) = Unit {0}
-IsCellBelow count (Node node) = node < count
+-- each reference among these tokens names a node of the tree
+abbrev pub NamesNodes : DeviceTree → List Token → Type 0
+NamesNodes t tokens = AllByRecursion (λ u. is_ref u.kind ≡ true → node_of_label t (name_of t.text u) < length t.nodes) tokens
