@@ -1,3 +1,4 @@
 pub mod Appended
 pub mod Enumerated
 pub mod WorkedLines
+pub mod WorkedRows
