@@ -107,6 +107,31 @@ function cells() {
     put(">;};\n")
 }
 
+# Nodes with a phandle each, and a property with the numbers of all.
+function phandles(    n, count) {
+    count = int(bytes / 34)
+    put("/{x=<")
+    for (n = 1; n <= count; n++) put(n " ")
+    put(">;")
+    for (n = 1; n <= count; n++) put("a" word(n) "{phandle=<" n ">;};")
+    put("};\n")
+}
+
+# Names that all stand on one shelf of the reader: Aa and BB are alike to its choice of a shelf.
+function shelf(    n, k, name, bit) {
+    put("/{")
+    for (n = 0; written < bytes; n++) {
+        name = ""
+        bit = n
+        for (k = 0; k < 17; k++) {
+            name = name (bit % 2 ? "Aa" : "BB")
+            bit = int(bit / 2)
+        }
+        put(name ";")
+    }
+    put("};\n")
+}
+
 BEGIN {
     put("/dts-v1/;\n")
     if (kind == "ordinary") ordinary()
@@ -119,5 +144,7 @@ BEGIN {
     else if (kind == "deep") deep()
     else if (kind == "names") names()
     else if (kind == "cells") cells()
+    else if (kind == "phandles") phandles()
+    else if (kind == "shelf") shelf()
     else { print "no such kind: " kind > "/dev/stderr"; exit 1 }
 }
