@@ -21,7 +21,7 @@ use Rattle.plain_board.specs.declared.plain.Plain.{Plain}
 use Rattle.plain_board.specs.declared.row.Row.{Row}
 use Rattle.plain_board.specs.Answer.{answer, plan}
 use Rattle.plain_board.specs.History.{IsNext, IsLegal, replay, moved, faults_of}
-use Rattle.plain_board.specs.Moves.{Move, writes_of}
+use Rattle.plain_board.specs.Moves.{writes_of}
 
 abbrev name : List ℕ → ArrayString
 name text = record { bytes = text; spare = [] }
