@@ -45,7 +45,7 @@ GapsBetween-push : (text : List ℕ) (from : ℕ) (ts : List Token) (t : Token) 
 GapsBetween-push text from [] t gaps = (gaps, rw slice_range-none shape.empty)
 GapsBetween-push text from (u ∷ us) t gaps = (gaps.0, GapsBetween-push text u.end us t gaps.1)
 
-AllByRecursion-push : {X : Type 0} (P : X → Type 0) (xs : List X) (x : X) → AllByRecursion P xs → P x → AllByRecursion P (xs ++ x ∷ [])
+pub AllByRecursion-push : {X : Type 0} (P : X → Type 0) (xs : List X) (x : X) → AllByRecursion P xs → P x → AllByRecursion P (xs ++ x ∷ [])
 AllByRecursion-push P [] x all here = (here, tt)
 AllByRecursion-push P (y ∷ ys) x all here = (all.0, AllByRecursion-push P ys x all.1 here)
 

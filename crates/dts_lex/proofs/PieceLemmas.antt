@@ -21,7 +21,7 @@ IfSome-weaker None P Q weaker h = tt
 IfSome-weaker (Some x) P Q weaker h = weaker x h
 
 -- a string ends behind its quote
-string_ends : (quote at : ℕ) (rest : List ℕ) → IfOk (string_end quote at rest) (λ end. (at < end) × (end ≤ at + length rest))
+pub string_ends : (quote at : ℕ) (rest : List ℕ) → IfOk (string_end quote at rest) (λ end. (at < end) × (end ≤ at + length rest))
 string_ends quote at [] = tt
 string_ends quote at (b ∷ []) =
     cond_both (eqb b 34) _ _ (λ (r : Result ℕ LexFault). IfOk r (λ end. (at < end) × (end ≤ at + 1)))
@@ -36,7 +36,7 @@ string_ends quote at (b ∷ c ∷ rest) =
     (λ _. cond_both (is_plain b) _ _ P (λ _. IfOk-weaker (string_end quote (at + 1) (c ∷ rest)) _ _ (λ end h. (omega (arith, h.0), omega (arith, h.1))) (string_ends quote (at + 1) (c ∷ rest))) (λ _. tt)))
 
 -- a comment ends behind its last two bytes
-comment_ends : (at : ℕ) (rest : List ℕ) → IfSome (comment_end at rest) (λ end. (at + 1 < end) × (end ≤ at + length rest))
+pub comment_ends : (at : ℕ) (rest : List ℕ) → IfSome (comment_end at rest) (λ end. (at + 1 < end) × (end ≤ at + length rest))
 comment_ends at [] = tt
 comment_ends at (b ∷ []) = tt
 comment_ends at (b ∷ c ∷ rest) =

@@ -27,7 +27,7 @@ use Rattle.dts_lex.specs.Shape as shape
 use Rattle.dts_lex.proofs.PieceLemmas.{byte_inside, IfSome-weaker}
 
 -- the elements of a longest run pass
-all_prefix : (p : ℕ → Bool) (xs : List ℕ) → AllByRecursion (λ b. p b ≡ true) (take (prefix_len p xs) xs)
+pub all_prefix : (p : ℕ → Bool) (xs : List ℕ) → AllByRecursion (λ b. p b ≡ true) (take (prefix_len p xs) xs)
 all_prefix p [] = tt
 all_prefix p (x ∷ xs) =
     elim (p x) as (λ t. p x ≡ t → AllByRecursion (λ b. p b ≡ true) (take (cond t (1 + prefix_len p xs) 0) (x ∷ xs))) [
@@ -45,14 +45,14 @@ slice_one : (text : List ℕ) (at : ℕ) → at < length text → slice_range te
 slice_one text at inside = slice_front text at (at + 1) (slice_index text at ∷ []) (drop (at + 1) text) (drop_more text at 0 inside) (omega arith)
 
 -- a run is of its class
-run_slice : (class : Class) (text : List ℕ) (at : ℕ) → AllOf class (slice_range text at (run_end class text at))
+pub run_slice : (class : Class) (text : List ℕ) (at : ℕ) → AllOf class (slice_range text at (run_end class text at))
 unfolding run_end
 run_slice class text at =
     let size : at + prefix_len (has class) (drop at text) - at ≡ prefix_len (has class) (drop at text) = omega arith in
     rw size (all_prefix (has class) (drop at text))
 
 -- a run whose first byte is of the class is that byte and a run behind it
-run_first : (class : Class) (text : List ℕ) (at : ℕ) → at < length text → has class (slice_index text at) ≡ true → (others : List ℕ) × (drop at text ≡ (slice_index text at ∷ others) ++ drop (run_end class text at) text) × (run_end class text at ≡ at + 1 + length others) × AllOf class others
+pub run_first : (class : Class) (text : List ℕ) (at : ℕ) → at < length text → has class (slice_index text at) ≡ true → (others : List ℕ) × (drop at text ≡ (slice_index text at ∷ others) ++ drop (run_end class text at) text) × (run_end class text at ≡ at + 1 + length others) × AllOf class others
 unfolding run_end
 run_first class text at inside belongs =
     let rest = drop (at + 1) text in
@@ -134,7 +134,7 @@ or_widened true b c d h = refl
 or_widened false b c d h = h
 
 -- what a label begins with it may go on with
-label_start_goes_on : (b : ℕ) → is_label_start b ≡ true → has class.Label b ≡ true
+pub label_start_goes_on : (b : ℕ) → is_label_start b ≡ true → has class.Label b ≡ true
 unfolding is_label_start has
 label_start_goes_on b start = or_widened (is_in_range 48 57 b) (is_in_range 65 90 b) (is_in_range 97 122 b) (is_in (codes "_") b) start
 
@@ -149,7 +149,7 @@ sign_among b comma_alone is =
 
 module _ (text : List ℕ) (at : ℕ) (inside : at < length text) where
   -- a slash, a name and a slash
-  directive : drop at text ≡ 47 ∷ drop (at + 1) text → slice_index text (run_end class.Directive text (at + 1)) ≡ 47 → IsOfKind kind.Directive (slice_range text at (run_end class.Directive text (at + 1) + 1))
+  pub directive : drop at text ≡ 47 ∷ drop (at + 1) text → slice_index text (run_end class.Directive text (at + 1)) ≡ 47 → IsOfKind kind.Directive (slice_range text at (run_end class.Directive text (at + 1) + 1))
   unfolding run_end
   directive front slash =
       let rest = drop (at + 1) text in
@@ -164,7 +164,7 @@ module _ (text : List ℕ) (at : ℕ) (inside : at < length text) where
       (name, slice_front text at (close + 1) (47 ∷ name ++ 47 ∷ []) (drop (close + 1) text) whole (omega (arith, size, length-append name (47 ∷ []))), all_prefix (has class.Directive) rest)
 
   -- a byte that begins a label stands inside the text
-  label_inside : is_label_start (slice_index text (at + 1)) ≡ true → at + 1 < length text
+  pub label_inside : is_label_start (slice_index text (at + 1)) ≡ true → at + 1 < length text
   unfolding is_label_start
   label_inside start =
       ⊎_elim (λ more. more) (λ past. absurd (false≢true (sym (ap is_label_start (get_or_past text (at + 1) 0 past)) ∙ start))) (cases_lt (at + 1) (length text))

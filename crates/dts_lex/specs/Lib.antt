@@ -1,7 +1,10 @@
 pub mod Bytes
 pub mod Class
+pub mod Faults
 pub mod Lex
 pub mod Number
 pub mod Piece
 pub mod Scan
 pub mod Shape
+pub mod Spelling
+pub mod Standing

@@ -1,5 +1,9 @@
 ghost use Rattle.std.specs.Prelude.{◌≡◌};
-ghost use Rattle.dts_lex.specs.Class.{has};
+ghost use Rattle.std.specs.List.{list_all};
+ghost use Rattle.dts_lex.specs.Class.{has, is_label};
+ghost use Rattle.dts_lex.specs.declared.class.Class.TheVariants.{Label};
+
+use crate::bytes::is_label_start;
 
 /// The bytes that go on in a row.
 #[derive(Clone, Copy)]
@@ -29,4 +33,18 @@ impl Class {
             Class::Line => b != b'\n',
         }
     }
+}
+
+/// A letter or `_`, and then letters, digits and `_`.
+#[tactic(auto, unfolding(crate::specs::Class::is_label, crate::specs::Bytes::is_label_start))]
+pub fn is_label(bytes: &[u8]) -> bool
+    ensures { result ≡ is_label bytes.now }
+{
+    !bytes.is_empty() && is_label_start(bytes[0]) && are_label_bytes(bytes)
+}
+
+fn are_label_bytes(bytes: &[u8]) -> bool
+    ensures { result ≡ list_all (has Label) bytes.now }
+{
+    bytes.iter().all(|b| Class::Label.has(*b))
 }

@@ -11,6 +11,7 @@ mod piece;
 mod scan;
 mod token;
 
+pub use class::is_label;
 pub use fault::LexFault;
 pub use lexer::lex;
 pub use number::{NumberFault, number_of};
