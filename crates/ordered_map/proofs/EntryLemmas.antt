@@ -1,16 +1,17 @@
 -- Where keys stand among entries.
-use Rattle.std.proofs.Common.{inl, inr, ◌≡◌, ℕ, suc, ◌+◌, ◌<◌, List, [], ◌∷◌, ◌++◌, Bool, true, false, cond, Option, Some, None, length, get_or, set, refl, sym, ap, ◌∙◌, subst, add-one, arith}
+use Rattle.std.proofs.Common.{◌⊎◌, inl, inr, map, ◌≡◌, ℕ, zero, suc, ◌+◌, ◌<◌, ◌≤◌, List, [], ◌∷◌, ◌++◌, Bool, true, false, cond, Option, Some, None, length, get_or, set, refl, sym, ap, ◌∙◌, subst, add-one, arith}
 use Rattle.std.specs.declared.cmp.Ordering.{Ordering}
 use Rattle.std.specs.Ordering.{is_eq}
 use Rattle.std.specs.Cmp.{IsEquivalence}
 use Rattle.std.specs.Map.{lookup}
 use Rattle.std.specs.Prelude.{IfSome}
-use Rattle.std.specs.Option.{option_map}
+use Rattle.std.specs.Option.{option_map, unwrap_or}
 use Rattle.std.specs.BTreeMap.{BTreeMap, btree_map_len, get}
 use Rattle.std.proofs.Math.Logic.{⊎_elim}
 use Rattle.std.proofs.lemmas.Bool.{cases_Bool}
-use Rattle.std.proofs.lemmas.List.{length_push, length-set}
-use Rattle.ordered_map.specs.Entries.{insert_entry, place_of, Placed}
+use Rattle.std.specs.List.{slice_get}
+use Rattle.std.proofs.lemmas.List.{map-append, length-map, length_push, length-set}
+use Rattle.ordered_map.specs.Entries.{insert_entry, keep_entry, place_of, IsOnce, Placed}
 
 record Before (o : Option ℕ) (n : ℕ) : Type 0 where
   at : ℕ
@@ -38,6 +39,28 @@ or_last-next None false n = refl
 or_last-none : (o : Option ℕ) (n : ℕ) → or_last o false n ≡ o
 or_last-none (Some k) n = refl
 or_last-none None n = refl
+
+or-there : (o : Option ℕ) (n end : ℕ) → n ≡ unwrap_or o end → n < end → o ≡ Some n
+or-there None n end is below = absurd (omega (arith, is, below))
+or-there (Some k) n end is below = ap Some (sym is)
+
+-- two lists with one item behind them
+pub push-same : {X : Type 0} (xs ys : List X) (x y : X) → xs ++ x ∷ [] ≡ ys ++ y ∷ [] → (xs ≡ ys) × (x ≡ y)
+push-same [] [] x y is = (refl, cc)
+push-same [] (b ∷ ys) x y is = absurd (omega (arith, ap length is, length_push ys y))
+push-same (a ∷ xs) [] x y is = absurd (omega (arith, ap length is, length_push xs x))
+push-same (a ∷ xs) (b ∷ ys) x y is =
+    let tail : xs ++ x ∷ [] ≡ ys ++ y ∷ [] = cc in
+    let rest = push-same xs ys x y tail in
+    let front : xs ≡ ys = rest.0 in
+    (cc, rest.1)
+
+-- what stands at a place in a list with one item more
+read-push : {X : Type 0} (xs : List X) (last x : X) (i : ℕ) → slice_get (xs ++ last ∷ []) i ≡ Some x → (slice_get xs i ≡ Some x) ⊎ ((i ≡ length xs) × (last ≡ x))
+read-push [] last x zero is = inr (refl, cc)
+read-push [] last x (suc i) is = absurd (cc)
+read-push (y ∷ xs) last x zero is = inl is
+read-push (y ∷ xs) last x (suc i) is = ⊎_elim (λ h. inl h) (λ h. inr (ap suc h.0, h.1)) (read-push xs last x i is)
 
 module _ {K V : Type 0} where
   -- the entry of a key that has a place
@@ -78,6 +101,15 @@ module _ {K V : Type 0} where
       ∙ ap (λ o. cond (passes x.0) (Some 0) o) (or_last-next (place_of passes es) (passes e.0) (length es))
       ∙ elim (passes x.0) as (λ (b : Bool). cond b (Some 0) (or_last (option_map (λ k. k + 1) (place_of passes es)) (passes e.0) (suc (length es))) ≡ or_last (cond b (Some 0) (option_map (λ k. k + 1) (place_of passes es))) (passes e.0) (suc (length es))) [ true ↦ refl | false ↦ refl ]
 
+  pub place-last : (same : K → K → Bool) (es : List (K × V)) (key : K) (value : V) → same key key ≡ true → place_of (same key) es ≡ None → place_of (same key) (es ++ (key, value) ∷ []) ≡ Some (length es)
+  place-last same es key value self is =
+      place-push (same key) es (key, value)
+      ∙ ap (λ o. or_last o (same key key) (length es)) is
+      ∙ ap (λ b. cond b (Some (length es)) None) self
+
+  pub place-new : (same : K → K → Bool) → IsEquivalence same → (es : List (K × V)) (key : K) (value : V) → place_of (same key) es ≡ None → place_of (same key) (es ++ (key, value) ∷ []) ≡ Some (length es)
+  place-new same laws es key value is = place-last same es key value (laws.refl key) is
+
   pub insert-new : (same : K → K → Bool) (es : List (K × V)) (key : K) (value : V) → place_of (same key) es ≡ None → insert_entry same es key value ≡ es ++ (key, value) ∷ []
   insert-new same [] key value is = refl
   insert-new same (e ∷ es) key value is =
@@ -95,6 +127,37 @@ module _ {K V : Type 0} where
             subst (λ (m : ℕ). e ∷ insert_entry same es key value ≡ set (e ∷ es) m ((get_or (e ∷ es) m d).0, value)) (sym b.next) (ap (λ xs. e ∷ xs) (insert-there same es key value b.at d b.there)))
       ] is
 
+  pub keep-new : (same : K → K → Bool) (es : List (K × V)) (key : K) (value : V) → place_of (same key) es ≡ None → keep_entry same es key value ≡ es ++ (key, value) ∷ []
+  keep-new same [] key value is = refl
+  keep-new same (e ∷ es) key value is =
+      elim (same key e.0) as (λ (b : Bool). cond b (Some 0) (option_map (λ k. k + 1) (place_of (same key) es)) ≡ None → cond b (e ∷ es) (e ∷ keep_entry same es key value) ≡ e ∷ (es ++ (key, value) ∷ [])) [
+        | true ↦ λ first. absurd (let no : Some 0 ≡ None = first in cc)
+        | false ↦ λ later. ap (λ xs. e ∷ xs) (keep-new same es key value (none_before (place_of (same key) es) later))
+      ] is
+
+  pub keep-there : (same : K → K → Bool) (es : List (K × V)) (key : K) (value : V) (n : ℕ) → place_of (same key) es ≡ Some n → keep_entry same es key value ≡ es
+  keep-there same [] key value n is = absurd (let no : None ≡ Some n = is in cc)
+  keep-there same (e ∷ es) key value n is =
+      elim (same key e.0) as (λ (b : Bool). cond b (Some 0) (option_map (λ k. k + 1) (place_of (same key) es)) ≡ Some n → cond b (e ∷ es) (e ∷ keep_entry same es key value) ≡ e ∷ es) [
+        | true ↦ λ first. refl
+        | false ↦ λ later. (let b = before (place_of (same key) es) n later in ap (λ xs. e ∷ xs) (keep-there same es key value b.at b.there))
+      ] is
+
+  -- the number that a map has for a key, or else the next one, tells whether the key is there
+  module _ (passes : K → Bool) (es : List (K × V)) (got : Option ℕ) (n end : ℕ) (is : n ≡ unwrap_or got end) (found : got ≡ place_of passes es) (next : end ≡ length es) where
+    pub found-there : n < end → place_of passes es ≡ Some n
+    found-there below = sym found ∙ or-there got n end is below
+
+    pub found-missing : end ≤ n → place_of passes es ≡ None
+    found-missing past =
+        elim (place_of passes es) as (λ (o : Option ℕ). place_of passes es ≡ o → got ≡ o → o ≡ None) [
+          | None ↦ λ e same. refl
+          | Some k ↦ λ e same. absurd (omega (arith, place-inside passes es k e, is, ap (λ o. unwrap_or o end) same, next, past))
+        ] refl found
+
+    pub found-last : end ≤ n → n ≡ length es
+    found-last past = is ∙ ap (λ o. unwrap_or o end) (found ∙ found-missing past) ∙ next
+
   -- another value for a key
   pub place-kept : (passes : K → Bool) (same : K → K → Bool) (es : List (K × V)) (key : K) (value : V) (n : ℕ) → place_of (same key) es ≡ Some n → place_of passes (insert_entry same es key value) ≡ place_of passes es
   place-kept passes same [] key value n is = absurd (let no : None ≡ Some n = is in cc)
@@ -109,6 +172,22 @@ module _ {K V : Type 0} where
   place-congr p q (e ∷ es) h =
       ap (λ b. cond b (Some 0) (option_map (λ k. k + 1) (place_of p es))) (h e.0)
       ∙ ap (λ o. cond (q e.0) (Some 0) (option_map (λ k. k + 1) o)) (place-congr p q es h)
+
+  pub keys-kept : (same : K → K → Bool) (es : List (K × V)) (key : K) (value : V) (n : ℕ) → place_of (same key) es ≡ Some n → map (λ (e : K × V). e.0) (insert_entry same es key value) ≡ map (λ (e : K × V). e.0) es
+  keys-kept same [] key value n is = absurd (let no : None ≡ Some n = is in cc)
+  keys-kept same (e ∷ es) key value n is =
+      elim (same key e.0) as (λ (b : Bool). cond b (Some 0) (option_map (λ k. k + 1) (place_of (same key) es)) ≡ Some n → map (λ (d : K × V). d.0) (cond b ((e.0, value) ∷ es) (e ∷ insert_entry same es key value)) ≡ e.0 ∷ map (λ (d : K × V). d.0) es) [
+        | true ↦ λ first. refl
+        | false ↦ λ later. (let b = before (place_of (same key) es) n later in ap (λ ks. e.0 ∷ ks) (keys-kept same es key value b.at b.there))
+      ] is
+
+  once-push : (same : K → K → Bool) → IsEquivalence same → (es : List (K × V)) (key : K) (value : V) → IsOnce same es → place_of (same key) es ≡ None → IsOnce same (es ++ (key, value) ∷ [])
+  once-push same laws es key value once absent place k is =
+      ⊎_elim
+      (λ old. place-push (same k) es (key, value) ∙ ap (λ o. or_last o (same k key) (length es)) (once place k old))
+      (λ new. subst (λ (q : K). place_of (same q) (es ++ (key, value) ∷ []) ≡ Some place) new.1
+      (place-new same laws es key value absent ∙ ap Some (sym (new.0 ∙ length-map es (λ (e : K × V). e.0)))))
+      (read-push (map (λ (e : K × V). e.0) es) key k place (sym (ap (λ ks. slice_get ks place) (map-append (λ (e : K × V). e.0) es ((key, value) ∷ []))) ∙ is))
 
   -- a key that was found nowhere has its entry last
   pub placed-push : (same : K → K → Bool) (cmp : K → K → Ordering) → IsEquivalence same → ((x y : K) → same x y ≡ is_eq (cmp x y)) → (es : List (K × V)) (old new : BTreeMap K ℕ) (key : K) (value : V) → Placed same cmp es old → place_of (same key) es ≡ None → ((q : K) → get cmp new q ≡ cond (is_eq (cmp key q)) (Some (length es)) (get cmp old q)) → btree_map_len new ≡ btree_map_len old + 1 → Placed same cmp (es ++ (key, value) ∷ []) new
@@ -129,4 +208,34 @@ module _ {K V : Type 0} where
         ∙ ap (λ b. or_last (place_of (same q) es) b (length es)) (laws.symm q key ∙ other)
         ∙ or_last-none (place_of (same q) es) (length es)))
         (cases_Bool (same key q));
+    once = once-push same laws es key value placed.once absent;
+  }
+
+  -- a key that was found is found where it was
+  pub placed-stay : (same : K → K → Bool) (cmp : K → K → Ordering) → IsEquivalence same → ((x y : K) → same x y ≡ is_eq (cmp x y)) → (es : List (K × V)) (old new : BTreeMap K ℕ) (key : K) (n : ℕ) → Placed same cmp es old → place_of (same key) es ≡ Some n → ((q : K) → get cmp new q ≡ cond (is_eq (cmp key q)) (Some n) (get cmp old q)) → btree_map_len new ≡ btree_map_len old → Placed same cmp es new
+  placed-stay same cmp laws ties es old new key n placed there updates long = record {
+    each = long ∙ placed.each;
+    found = λ q. updates q
+        ∙ ap (λ b. cond b (Some n) (get cmp old q)) (sym (ties key q))
+        ∙ ⊎_elim
+        (λ here. ap (λ b. cond b (Some n) (get cmp old q)) here ∙ sym (place-congr (same q) (same key) es (λ k. sym (laws.congr key q k here)) ∙ there))
+        (λ other. ap (λ b. cond b (Some n) (get cmp old q)) other ∙ placed.found q)
+        (cases_Bool (same key q));
+    once = placed.once;
+  }
+
+  -- a new value that was put last, moved to the place of its key
+  pub put-there : (same : K → K → Bool) (es popped : List (K × V)) (key k : K) (value v : V) (n : ℕ) (d : K × V) → es ++ (key, value) ∷ [] ≡ popped ++ (k, v) ∷ [] → d ≡ get_or popped n d → place_of (same key) es ≡ Some n → set popped n (d.0, v) ≡ insert_entry same es key value
+  put-there same es popped key k value v n d is read there =
+      let both = push-same es popped (key, value) (k, v) is in
+      ap (λ xs. set xs n (d.0, v)) (sym both.0)
+      ∙ ap (λ (e : K × V). set es n (d.0, e.1)) (sym both.1)
+      ∙ ap (λ (e : K × V). set es n (e.0, value)) (read ∙ ap (λ xs. get_or xs n d) (sym both.0))
+      ∙ sym (insert-there same es key value n d there)
+
+  pub placed-put : (same : K → K → Bool) (cmp : K → K → Ordering) (es : List (K × V)) (m : BTreeMap K ℕ) (key : K) (value : V) (n : ℕ) → Placed same cmp es m → place_of (same key) es ≡ Some n → Placed same cmp (insert_entry same es key value) m
+  placed-put same cmp es m key value n placed there = record {
+    each = placed.each ∙ sym (ap length (insert-there same es key value n (key, value) there) ∙ length-set es n ((get_or es n (key, value)).0, value));
+    found = λ q. placed.found q ∙ sym (place-kept (same q) same es key value n there);
+    once = λ place k is. place-kept (same k) same es key value n there ∙ placed.once place k (ap (λ ks. slice_get ks place) (sym (keys-kept same es key value n there)) ∙ is);
   }

@@ -1,7 +1,9 @@
-ghost use Rattle.std.specs.Prelude.{◌≡◌, ◌<◌, ◌^◌, ◌++◌, ◌∷◌, [], None, length, slice_get, IfSome, OnOk, OnErr};
+ghost use Rattle.std.specs.Prelude.{◌≡◌, ◌<◌, ◌^◌, ◌++◌, ◌∷◌, [], None, length, slice_get, ◌+◌, Some, is_some, if◌then◌else◌, IfSome, IfOk, OnOk, OnErr};
 ghost use Rattle.std.specs.Map.{lookup};
-ghost use Rattle.std.specs.Option.{option_copied};
-ghost use Rattle.ordered_map.specs.Entries.{insert_entry, place_of};
+ghost use Rattle.std.specs.Option.{option_copied, unwrap_or};
+ghost use Rattle.std.specs.Ordering.{is_eq};
+ghost use Rattle.std.specs.BTreeMap.{get, btree_map_len, IsUnchanged};
+ghost use Rattle.ordered_map.specs.Entries.{insert_entry, keep_entry, place_of, IsOnce};
 
 use std::alloc::{AllocError, Global};
 use std::collections::BTreeMap;
@@ -68,6 +70,13 @@ impl<K: Ord, V> OrderedMap<K, V> {
         self.places.get(key).copied()
     }
 
+    /// No key has two entries.
+    pub fn apart(&self)
+        ensures { IsOnce K.eq self.now }
+    {
+        let _ = &self.entries;
+    }
+
     /// The value of a key.
     pub fn get(&self, key: &K) -> Option<&V>
         ensures { option_copied result ≡ lookup (K.eq key.now) self.now }
@@ -87,16 +96,62 @@ impl<K: Ord + Copy + Drop, V: Drop> OrderedMap<K, V> {
         ensures fresh { OnOk result (place_of (K.eq key) self.old ≡ None → self.new ≡ self.old ++ (key, value) ∷ []) }
         ensures err { OnErr result (self.new ≡ self.old) }
     {
-        if let Some(place) = self.places.get(&key) {
-            self.entries[*place].1 = value;
-            return Ok(());
-        }
-        let place = self.entries.len();
+        let end = self.entries.len();
         self.entries.push((key, value))?;
-        if let Err(refused) = self.places.insert(key, place) {
-            self.entries.pop();
-            return Err(AllocError::from(refused));
+        match place_or(&mut self.places, key, end) {
+            Ok(place) => {
+                if place < end {
+                    if let Some((_, value)) = self.entries.pop() {
+                        self.entries[place].1 = value;
+                    }
+                }
+                Ok(())
+            }
+            Err(refused) => {
+                self.entries.truncate(end);
+                Err(refused)
+            }
         }
-        Ok(())
     }
+
+    /// The number of the key's entry; a key that wasn't there comes last, with this value. At `Err`
+    /// nothing has changed.
+    pub fn keep(&mut self, key: K, value: V) -> Result<usize, AllocError>
+        ensures ok { OnOk result (self.new ≡ keep_entry K.eq self.old key value) }
+        ensures place { IfOk result (λ place. place_of (K.eq key) self.new ≡ Some place) }
+        ensures inside { IfOk result (λ place. place < length self.new) }
+        ensures err { OnErr result (self.new ≡ self.old) }
+    {
+        let end = self.entries.len();
+        self.entries.push((key, value))?;
+        match place_or(&mut self.places, key, end) {
+            Ok(place) => {
+                if place < end {
+                    self.entries.truncate(end);
+                }
+                Ok(place)
+            }
+            Err(refused) => {
+                self.entries.truncate(end);
+                Err(refused)
+            }
+        }
+    }
+}
+
+/// The place of a key, or this one, which it has from now on.
+fn place_or<K: Ord + Drop>(
+    places: &mut BTreeMap<K, usize>,
+    key: K,
+    end: usize,
+) -> Result<usize, AllocError>
+    ensures place { IfOk result (λ place. place ≡ unwrap_or (get K.cmp places.old key) end) }
+    ensures found { OnOk result ((q : K) → get K.cmp places.new q
+        ≡ (if is_eq (K.cmp key q) then Some (unwrap_or (get K.cmp places.old key) end) else get K.cmp places.old q)) }
+    ensures len { OnOk result (btree_map_len places.new
+        ≡ btree_map_len places.old + (if is_some (get K.cmp places.old key) then 0 else 1)) }
+    ensures err { OnErr result (IsUnchanged places.old places.new) }
+{
+    let place = *places.entry(key)?.or_insert(end);
+    Ok(place)
 }

@@ -1,50 +1,49 @@
-use Rattle.std.proofs.Common.{◌≡◌, ◌∙◌, ◌+◌, cond, slice_set, Some, None, ap, sym, length, arith}
-use Rattle.std.specs.BTreeMap.{btree_map_len}
+use Rattle.std.proofs.Common.{◌∙◌, ◌+◌, cond, Some, ap, sym, add-zero}
+use Rattle.std.specs.BTreeMap.{btree_map_len, get}
+use Rattle.std.specs.Ordering.{is_eq}
 use Rattle.std.specs.Prelude.{is_some}
-use Rattle.std.proofs.lemmas.List.{length-set}
-use Rattle.ordered_map.specs.Entries.{insert_entry, place_of}
-use Rattle.ordered_map.proofs.EntryLemmas.{place-inside, insert-there, insert-new, place-kept, placed-push}
+use Rattle.ordered_map.specs.Entries.{insert_entry}
+use Rattle.ordered_map.proofs.EntryLemmas.{found-there, found-missing, found-last, insert-new, put-there, placed-push, placed-put, placed-stay}
 use Rattle.ordered_map.proofs.ordered_map.OrderedMap.insert.Goals as goal
-
-pub index_mut-requires : goal.index_mut-requires
-index_mut-requires g c =
-    let es = c.self.inside.entries.items in
-    let there : place_of (g.K.PartialEq.eq c.args.key) es ≡ Some c.in-Some.place.now = sym (c.in-Some.ensures.value ∙ c.self.invariant.found c.args.key) in
-    omega (arith, place-inside (g.K.PartialEq.eq c.args.key) es c.in-Some.place.now there, c.self.inside.entries.ok.0)
 
 pub returns-in-Some-clause-ok : goal.returns-in-Some-clause-ok
 returns-in-Some-clause-ok g c =
     let es = c.self.inside.entries.items in
-    let there : place_of (g.K.PartialEq.eq c.args.key) es ≡ Some c.in-Some.place.now = sym (c.in-Some.ensures.value ∙ c.self.invariant.found c.args.key) in
-    ap (λ e. slice_set es c.in-Some.place.now (e.0, c.args.value)) c.index_mut.ensures.value
-    ∙ sym (insert-there g.K.PartialEq.eq es c.args.key c.args.value c.in-Some.place.now c.index_mut.result.now there)
+    let end = c.len-end.ensures ∙ c.self.inside.entries.ok.0 in
+    let there = found-there (g.K.PartialEq.eq c.args.key) es (get g.K.Ord.cmp c.self.inside.places c.args.key) c.in-Ok.place c.len-end.result c.in-Ok.ensures.place (c.self.invariant.found c.args.key) end c.if-place-end.true in
+    put-there g.K.PartialEq.eq es c.pop.new.self.items c.args.key c.in-Some.field-0-0 c.args.value c.in-Some.value c.in-Ok.place c.index_mut.result.now (sym c.in_ok-push.ensures.items ∙ c.in-Some.ensures.items) c.index_mut.ensures.value there
     ∙ ap (λ xs. insert_entry g.K.PartialEq.eq xs c.args.key c.args.value) c.self.view_is
 
-pub invariant_of-self : goal.invariant_of-self
-invariant_of-self g c =
+pub invariant_of-self-in-Some : goal.invariant_of-self-in-Some
+invariant_of-self-in-Some g c =
     let es = c.self.inside.entries.items in
-    let there : place_of (g.K.PartialEq.eq c.args.key) es ≡ Some c.in-Some.place.now = sym (c.in-Some.ensures.value ∙ c.self.invariant.found c.args.key) in
-    let now = ap (λ e. slice_set es c.in-Some.place.now (e.0, c.args.value)) c.index_mut.ensures.value ∙ sym (insert-there g.K.PartialEq.eq es c.args.key c.args.value c.in-Some.place.now c.index_mut.result.now there) in
-    record {
-      each = c.self.invariant.each ∙ sym (length-set es c.in-Some.place.now (c.index_mut.result.now.0, c.args.value));
-      found = λ key. c.self.invariant.found key
-          ∙ sym (ap (place_of (g.K.PartialEq.eq key)) now
-          ∙ place-kept (g.K.PartialEq.eq key) g.K.PartialEq.eq es c.args.key c.args.value c.in-Some.place.now there);
-    }
+    let places = c.self.inside.places in
+    let end = c.len-end.ensures ∙ c.self.inside.entries.ok.0 in
+    let there = found-there (g.K.PartialEq.eq c.args.key) es (get g.K.Ord.cmp c.self.inside.places c.args.key) c.in-Ok.place c.len-end.result c.in-Ok.ensures.place (c.self.invariant.found c.args.key) end c.if-place-end.true in
+    rw (put-there g.K.PartialEq.eq es c.pop.new.self.items c.args.key c.in-Some.field-0-0 c.args.value c.in-Some.value c.in-Ok.place c.index_mut.result.now (sym c.in_ok-push.ensures.items ∙ c.in-Some.ensures.items) c.index_mut.ensures.value there)
+    (placed-put g.K.PartialEq.eq g.K.Ord.cmp es c.place_or.new.places c.args.key c.args.value c.in-Ok.place
+    (placed-stay g.K.PartialEq.eq g.K.Ord.cmp g.met.K.Eq.laws g.met.K.Ord.matches_eq es places c.place_or.new.places c.args.key c.in-Ok.place c.self.invariant there
+    (λ q. c.in-Ok.ensures.found q ∙ ap (λ n. cond (is_eq (g.K.Ord.cmp c.args.key q)) (Some n) (get g.K.Ord.cmp places q)) (sym c.in-Ok.ensures.place))
+    (c.in-Ok.ensures.len ∙ ap (λ o. btree_map_len places + cond (is_some o) 0 1) (c.self.invariant.found c.args.key ∙ there) ∙ add-zero (btree_map_len places)))
+    there)
 
-pub invariant_of-self-in_default-insert : goal.invariant_of-self-in_default-insert
-invariant_of-self-in_default-insert g c =
+pub returns-else-place-end-clause-ok : goal.returns-else-place-end-clause-ok
+returns-else-place-end-clause-ok g c =
     let es = c.self.inside.entries.items in
-    let absent : place_of (g.K.PartialEq.eq c.args.key) es ≡ None = sym (c.in_default.ensures.value ∙ c.self.invariant.found c.args.key) in
-    let long : c.len-place.result ≡ length es = c.len-place.ensures ∙ c.self.inside.entries.ok.0 in
-    rw c.in_ok-push.ensures.items
-    (placed-push g.K.PartialEq.eq g.K.Ord.cmp g.met.K.Eq.laws g.met.K.Ord.matches_eq es c.self.inside.places c.insert.new.self c.args.key c.args.value c.self.invariant absent
-    (rw (← long) c.in_default-insert.ensures.updates.0)
-    (c.in_default-insert.ensures.len ∙ ap (λ o. btree_map_len c.self.inside.places + cond (is_some o) 0 1) (c.in_default-insert.ensures.old ∙ sym c.in_default.ensures.value)))
-
-pub returns-clause-ok : goal.returns-clause-ok
-returns-clause-ok g c =
-    let absent : place_of (g.K.PartialEq.eq c.args.key) c.self.inside.entries.items ≡ None = sym (c.in_default.ensures.value ∙ c.self.invariant.found c.args.key) in
+    let end = c.len-end.ensures ∙ c.self.inside.entries.ok.0 in
+    let absent = found-missing (g.K.PartialEq.eq c.args.key) es (get g.K.Ord.cmp c.self.inside.places c.args.key) c.in-Ok.place c.len-end.result c.in-Ok.ensures.place (c.self.invariant.found c.args.key) end c.if-place-end.false in
     c.in_ok-push.ensures.items
-    ∙ sym (insert-new g.K.PartialEq.eq c.self.inside.entries.items c.args.key c.args.value absent)
+    ∙ sym (insert-new g.K.PartialEq.eq es c.args.key c.args.value absent)
     ∙ ap (λ xs. insert_entry g.K.PartialEq.eq xs c.args.key c.args.value) c.self.view_is
+
+pub invariant_of-self-else-place-end : goal.invariant_of-self-else-place-end
+invariant_of-self-else-place-end g c =
+    let es = c.self.inside.entries.items in
+    let places = c.self.inside.places in
+    let end = c.len-end.ensures ∙ c.self.inside.entries.ok.0 in
+    let absent = found-missing (g.K.PartialEq.eq c.args.key) es (get g.K.Ord.cmp c.self.inside.places c.args.key) c.in-Ok.place c.len-end.result c.in-Ok.ensures.place (c.self.invariant.found c.args.key) end c.if-place-end.false in
+    let last = sym c.in-Ok.ensures.place ∙ found-last (g.K.PartialEq.eq c.args.key) es (get g.K.Ord.cmp c.self.inside.places c.args.key) c.in-Ok.place c.len-end.result c.in-Ok.ensures.place (c.self.invariant.found c.args.key) end c.if-place-end.false in
+    rw c.in_ok-push.ensures.items
+    (placed-push g.K.PartialEq.eq g.K.Ord.cmp g.met.K.Eq.laws g.met.K.Ord.matches_eq es places c.place_or.new.places c.args.key c.args.value c.self.invariant absent
+    (λ q. c.in-Ok.ensures.found q ∙ ap (λ n. cond (is_eq (g.K.Ord.cmp c.args.key q)) (Some n) (get g.K.Ord.cmp places q)) last)
+    (c.in-Ok.ensures.len ∙ ap (λ o. btree_map_len places + cond (is_some o) 0 1) (c.self.invariant.found c.args.key ∙ absent)))

@@ -1,0 +1,5 @@
+pub mod KeyLemmas
+pub mod NamedLemmas
+pub mod ShelfLemmas
+pub mod StateLemmas
+pub mod WorkedNames

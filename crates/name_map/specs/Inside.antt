@@ -1,0 +1,4 @@
+-- What serves the contracts inside the crate, and nobody has to believe.
+pub mod Kept
+pub mod Shelved
+pub mod States
