@@ -117,19 +117,32 @@ function phandles(    n, count) {
     put("};\n")
 }
 
-# Names that all stand on one shelf of the reader: Aa and BB are alike to its choice of a shelf.
-function shelf(    n, k, name, bit) {
-    put("/{")
-    for (n = 0; written < bytes; n++) {
-        name = ""
-        bit = n
-        for (k = 0; k < 17; k++) {
-            name = name (bit % 2 ? "Aa" : "BB")
-            bit = int(bit / 2)
-        }
-        put(name ";")
-    }
-    put("};\n")
+# One property with one long string.
+function text() {
+    put("/{x=\"")
+    while (written < bytes) put("0123456789abcdefghijklmnopqrstuvwxyz")
+    put("\";};\n")
+}
+
+# One property with as many bytes as fit, in one word.
+function hexadecimal() {
+    put("/{x=[")
+    while (written < bytes) put("0123456789abcdef")
+    put("];};\n")
+}
+
+# One property with as many parts as fit.
+function parts() {
+    put("/{x=<>")
+    while (written < bytes) put(",<>")
+    put(";};\n")
+}
+
+# One property with as many references by themselves as fit.
+function references() {
+    put("/{l:a{};x=&l")
+    while (written < bytes) put(",&l")
+    put(";};\n")
 }
 
 BEGIN {
@@ -145,6 +158,9 @@ BEGIN {
     else if (kind == "names") names()
     else if (kind == "cells") cells()
     else if (kind == "phandles") phandles()
-    else if (kind == "shelf") shelf()
+    else if (kind == "text") text()
+    else if (kind == "hexadecimal") hexadecimal()
+    else if (kind == "parts") parts()
+    else if (kind == "references") references()
     else { print "no such kind: " kind > "/dev/stderr"; exit 1 }
 }

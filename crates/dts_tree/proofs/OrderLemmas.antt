@@ -1,39 +1,16 @@
 -- The walk over links that gives the order of a tree.
-use Rattle.std.proofs.Common.{◌≡◌, ℕ, zero, suc, ◌+◌, ◌-◌, ◌<◌, ◌≤◌, List, [], ◌∷◌, ◌++◌, Bool, true, false, cond, Option, Some, None, length, filter, get_or, set, replicate, reverse, nat_eq, refl, sym, ap, ◌∙◌, subst, arith, append_assoc}
+use Rattle.std.proofs.Common.{◌≡◌, ℕ, zero, suc, ◌+◌, ◌-◌, ◌<◌, ◌≤◌, List, [], ◌∷◌, ◌++◌, Bool, true, false, cond, Option, Some, None, length, filter, get_or, reverse, nat_eq, refl, sym, ap, ◌∙◌, subst, arith, append_assoc}
 use Rattle.std.proofs.Math.Logic.{⊎_elim}
 use Rattle.std.specs.List.{range_with_len, flat_map}
-use Rattle.std.proofs.lemmas.Bool.{cases_eq, cases_lt, cases_Bool, cond-true, cond-false, eq-eqb, ne_eqb, eqb-true}
-use Rattle.std.proofs.lemmas.List.{length-set, get_or-set_same, get_or-set_other, reverse-append, append-nil}
-use Rattle.dts_tree.specs.Inside.Reader.{AllBelow}
-use Rattle.dts_tree.specs.Inside.Order.{children_from, below, siblings_after, first_of, listed, Linked}
+use Rattle.std.proofs.lemmas.Bool.{cases_eq, cases_lt, cases_Bool, cond-true, cond-false, ne_eqb, eqb-true}
+use Rattle.std.proofs.lemmas.List.{reverse-append, append-nil}
+use Rattle.dts_tree.specs.Order.{children_from, below}
+use Rattle.dts_tree.specs.Inside.Links.{first_of, listed, Linked}
+use Rattle.dts_tree.proofs.LinkLemmas.{children_from-end, children_from-step}
 
--- from k on
-pub record LinkedFrom (parents : List ℕ) (first next : List (Option ℕ)) (k : ℕ) : Type 0 where
-  pub firsts : length first ≡ length parents
-  pub nexts : length next ≡ length parents
-  pub child : (x : ℕ) → x < length parents → get_or first x None ≡ first_of (children_from parents x k)
-  pub sibling : (j : ℕ) → k ≤ j → j < length parents → get_or next j None ≡ first_of (siblings_after parents j)
-  pub alone : get_or next 0 None ≡ None
-
-pub children_from-end : (parents : List ℕ) (x k : ℕ) → length parents ≤ k → children_from parents x k ≡ []
-unfolding children_from
-children_from-end parents x k past =
-    let none : length parents - k ≡ 0 = omega (arith, past) in rw none refl
-
-pub children_from-step : (parents : List ℕ) (x k : ℕ) → k < length parents → children_from parents x k ≡ cond (nat_eq (get_or parents k 0) x) (k ∷ children_from parents x (k + 1)) (children_from parents x (k + 1))
-unfolding children_from
-children_from-step parents x k h =
-    let more : length parents - k ≡ suc (length parents - (k + 1)) = omega (arith, h) in rw more refl
-
--- ---- the links
-pub linked_start : (parents : List ℕ) (first next : List (Option ℕ)) → length first ≡ length parents → length next ≡ length parents → ((x : ℕ) → get_or first x None ≡ None) → ((x : ℕ) → get_or next x None ≡ None) → LinkedFrom parents first next (length parents)
-linked_start parents first next firsts nexts none_first none_next = record {
-  firsts = firsts;
-  nexts = nexts;
-  child = λ x h. none_first x ∙ sym (ap first_of (children_from-end parents x (length parents) (omega arith)));
-  sibling = λ j past h. absurd (omega (arith, past, h));
-  alone = none_next 0;
-}
+-- the children of a node's parent behind it
+unfoldable pub siblings_after : List ℕ → ℕ → List ℕ
+siblings_after parents j = cond (nat_eq j 0) [] (children_from parents (get_or parents j 0) (j + 1))
 
 siblings_after-some : (parents : List ℕ) (j : ℕ) → 1 ≤ j → siblings_after parents j ≡ children_from parents (get_or parents j 0) (j + 1)
 unfolding siblings_after
@@ -43,38 +20,11 @@ siblings_after-root : (parents : List ℕ) → siblings_after parents 0 ≡ []
 unfolding siblings_after
 siblings_after-root parents = refl
 
-pub linked_more : (parents : List ℕ) (first next : List (Option ℕ)) (k : ℕ) (s : Option ℕ) → 1 ≤ k → k < length parents → get_or parents k 0 < k → s ≡ get_or first (get_or parents k 0) None → LinkedFrom parents first next (k + 1) → LinkedFrom parents (set first (get_or parents k 0) (Some k)) (set next k s) k
-linked_more parents first next k s low high earlier is h = record {
-  firsts = length-set first (get_or parents k 0) (Some k) ∙ h.firsts;
-  nexts = length-set next k s ∙ h.nexts;
-  child = λ x in_x. ⊎_elim
-      (λ (e : get_or parents k 0 ≡ x). ap (λ (y : ℕ). get_or (set first (get_or parents k 0) (Some k)) y None) (sym e)
-      ∙ (get_or-set_same first (get_or parents k 0) (Some k) None (rw h.firsts (omega (arith, earlier, high)))
-      ∙ sym (ap first_of (children_from-step parents x k high ∙ cond-true _ (k ∷ children_from parents x (k + 1)) (children_from parents x (k + 1)) (eq-eqb (get_or parents k 0) x e)))))
-      (λ n. get_or-set_other first (get_or parents k 0) x (Some k) None (λ e. n (sym e))
-      ∙ (h.child x in_x ∙ sym (ap first_of (children_from-step parents x k high ∙ cond-false _ (k ∷ children_from parents x (k + 1)) (children_from parents x (k + 1)) (ne_eqb (get_or parents k 0) x n)))))
-      (cases_eq (get_or parents k 0) x);
-  sibling = λ j from in_j. ⊎_elim
-      (λ e. ap (λ (i : ℕ). get_or (set next k s) i None) e
-      ∙ (get_or-set_same next k s None (rw h.nexts high)
-      ∙ (is ∙ (h.child (get_or parents k 0) (omega (arith, earlier, high))
-      ∙ sym (ap first_of (ap (siblings_after parents) e ∙ siblings_after-some parents k low))))))
-      (λ n. get_or-set_other next k j s None n ∙ h.sibling j (omega (arith, n, from)) in_j)
-      (cases_eq j k);
-  alone = get_or-set_other next k 0 s None (λ e. omega (arith, e, low)) ∙ h.alone;
-}
-
-pub linked_all : (parents : List ℕ) (first next : List (Option ℕ)) (k : ℕ) → k ≤ 1 → 1 ≤ k → LinkedFrom parents first next k → Linked parents first next
-linked_all parents first next k high low h =
-    let one : k ≡ 1 = omega (arith, high, low) in record {
-      firsts = h.firsts;
-      nexts = h.nexts;
-      child = λ x in_x. h.child x in_x ∙ ap (λ i. first_of (children_from parents x i)) one;
-      sibling = λ j in_j. ⊎_elim
-          (λ e. ap (λ (i : ℕ). get_or next i None) e ∙ (h.alone ∙ sym (ap first_of (ap (siblings_after parents) e ∙ siblings_after-root parents))))
-          (λ n. h.sibling j (omega (arith, n, high)) in_j)
-          (cases_eq j 0);
-    }
+pub linked-next : (parents : List ℕ) (first next : List (Option ℕ)) (j : ℕ) → Linked parents (length parents) first next 1 → j < length parents → get_or next j None ≡ first_of (siblings_after parents j)
+linked-next parents first next j h in_j = ⊎_elim
+    (λ e. ap (λ (i : ℕ). get_or next i None) e ∙ (h.alone 0 (omega arith) ∙ sym (ap first_of (ap (siblings_after parents) e ∙ siblings_after-root parents))))
+    (λ n. h.sibling j (omega (arith, n)) in_j ∙ sym (ap first_of (siblings_after-some parents j (omega (arith, n)))))
+    (cases_eq j 0)
 
 -- ---- what is first among children
 pub record Split (parents : List ℕ) (x k f : ℕ) : Type 0 where
@@ -105,7 +55,7 @@ children-split (suc m) parents x k f few is =
 pub children-first : (parents : List ℕ) (x k f : ℕ) → first_of (children_from parents x k) ≡ Some f → Split parents x k f
 children-first parents x k f is = children-split (length parents) parents x k f (omega arith) is
 
-first-none : (xs : List ℕ) → first_of xs ≡ None → xs ≡ []
+pub first-none : (xs : List ℕ) → first_of xs ≡ None → xs ≡ []
 first-none [] h = refl
 first-none (x ∷ xs) h = absurd (cc)
 
@@ -243,15 +193,6 @@ pub pending-root : (parents : List ℕ) → pending parents (0 ∷ []) ≡ below
 unfolding block
 pending-root parents = ap (λ cs. flat_map (block parents) (0 ∷ cs) ++ []) (siblings_after-root parents) ∙ (append-nil _ ∙ append-nil _)
 
-replicate_none : (n x : ℕ) → get_or (replicate {A = Option ℕ} n None) x None ≡ None
-replicate_none zero x = refl
-replicate_none (suc n) zero = refl
-replicate_none (suc n) (suc x) = replicate_none n x
-
--- all are without a link
-pub none_each : (xs : List (Option ℕ)) (n : ℕ) → xs ≡ replicate n None → (x : ℕ) → get_or xs x None ≡ None
-none_each xs n is x = ap (λ ys. get_or ys x None) is ∙ replicate_none n x
-
 -- the walk goes on
 pub walk-left : (parents order rest now_order now_rest : List ℕ) (s : ℕ) (all : List ℕ) → IsEarlier parents → 0 < length parents → now_order ≡ order ++ s ∷ [] → reverse now_rest ≡ waits_after parents s (reverse rest) → order ++ pending parents (s ∷ reverse rest) ≡ all → now_order ++ pending parents (reverse now_rest) ≡ all
 walk-left parents order rest now_order now_rest s all earlier some told waits left =
@@ -262,7 +203,3 @@ walk-left parents order rest now_order now_rest s all earlier some told waits le
 
 pub reverse-taken : (before rest : List ℕ) (s : ℕ) → before ≡ rest ++ s ∷ [] → reverse before ≡ s ∷ reverse rest
 reverse-taken before rest s is = ap reverse is ∙ reverse-append rest (s ∷ [])
-
-pub all_below-append : (n : ℕ) (xs : List ℕ) (x : ℕ) → AllBelow n xs → x < n → AllBelow n (xs ++ x ∷ [])
-all_below-append n [] x h new = (new, tt)
-all_below-append n (y ∷ ys) x h new = (h.0, all_below-append n ys x h.1 new)

@@ -1,245 +1,309 @@
--- What is kept while steps are read, and what has been read by it.
-use Rattle.std.proofs.Common.{◌≡◌, ℕ, ◌+◌, ◌-◌, ◌<◌, ◌≤◌, ◌⊎◌, List, [], ◌∷◌, ◌++◌, Bool, true, false, not, cond, Option, Some, None, Ok, Err, inl, inr, length, map, get_or, reverse, take, nat_eq, refl, sym, ap, ◌∙◌, subst, arith, drop}
-use Rattle.std.proofs.Math.Logic.{⊎_elim}
-use Rattle.std.specs.Option.{option_map}
+-- What a reader keeps while it goes on.
+use Rattle.std.proofs.Common.{Vec, Global, get_or, ◌≡◌, ℕ, zero, suc, ◌+◌, ◌-◌, ◌<◌, ◌≤◌, List, [], ◌∷◌, ◌++◌, Bool, true, false, cond, Option, Some, None, Result, Ok, Err, length, map, fold, drop, reverse, refl, sym, ap, ◌∙◌, subst, arith}
+use Rattle.std.specs.List.{AllByRecursion}
+use Rattle.std.specs.Prelude.{slice_range, slice_get, slice_index_or}
 use Rattle.std.specs.Map.{lookup}
-use Rattle.std.specs.Cmp.Lexicographic.{pointwise}
-use Rattle.std.proofs.lemmas.Bool.{cases_eq, cases_lt, cases_Bool, cond-true, cond-false, lt-ltb, le-ltb, false_from_ne_true}
-use Rattle.std.proofs.lemmas.List.{reverse-append, map-append, get_or_append_left, get_or_push, get_or_past, length_push, at_drop_more, take_all, take_more}
-use Rattle.std.proofs.lemmas.List.Sums.{prefix_len-le-length, fails_before_first, passes_at_first}
-use Rattle.std.proofs.lemmas.Slice.Eq.{bytes_eq-Decides}
-use Rattle.dts_tree.specs.declared.setting.Setting.{Setting}
-use Rattle.dts_tree.specs.declared.setting.Setting.TheVariants.{Opens, Sets}
+use Rattle.std.specs.Option.{option_map}
+use Rattle.std.proofs.lemmas.List.{length-append, drop_all, drop_more, reverse-append}
+use Rattle.ordered_map.specs.Entries.{insert_entry, place_of}
+use Rattle.name_map.specs.NameEntries.{same_name, keep_entry}
+use Rattle.dts_lex.specs.declared.token.Token.{Token}
+use Rattle.std.specs.Prelude.{nat_lt}
+use Rattle.std.proofs.lemmas.Bool.{lt-ltb}
 use Rattle.dts_tree.specs.declared.fault.TreeFault.{TreeFault}
-use Rattle.dts_tree.specs.Path.{number_of, with_path}
-use Rattle.ordered_map.specs.Entries.{insert_entry}
-use Rattle.dts_tree.specs.Reading.{Reading, elsewhere, stands_elsewhere, with_labels, opened, stepped, walked, unless_fault, nothing_read}
-use Rattle.dts_tree.specs.declared.said.Said.{Said}
-use Rattle.dts_tree.specs.declared.reader.Reader.{Reader}
-use Rattle.dts_tree.specs.Inside.Reader.{Standing, reading, AllBelow, path_at, label_at, with_path_at, node_of, elsewhere_by_number, stands_off, with_labels_at}
+use Rattle.dts_tree.specs.declared.fault.TreeFault.TheVariants.{TooDeep}
+use Rattle.dts_tree.specs.declared.piece.Piece.{Piece}
+use Rattle.dts_tree.specs.declared.piece.Place.{Place}
+use Rattle.dts_tree.specs.declared.reading.reader.Reader.{Reader}
+use Rattle.dts_tree.specs.declared.reading.spot.Spot.{Spot}
+use Rattle.dts_tree.specs.declared.reading.spot.Spot.TheVariants as spot
+use Rattle.dts_tree.specs.declared.store.Opened.{Opened}
+use Rattle.dts_tree.specs.declared.store.Span.{Span}
+use Rattle.dts_tree.specs.declared.store.Store.{Store}
+use Rattle.dts_tree.specs.Value.{Part, part_by}
+use Rattle.dts_tree.specs.Setting.{Label}
+use Rattle.dts_tree.specs.Content.{Content, nothing, node_of, depth_of, elsewhere, stands_off, child_of, or_root, with_labels, with_child, opened, unless_fault}
+use Rattle.dts_tree.specs.Inside.Pieces.{with_piece, parts_of, piece_by, label_at}
+use Rattle.dts_tree.specs.Inside.Stored.{content_of, value_in, values_kept, labels_kept}
+use Rattle.dts_tree.specs.Inside.View.{View, view_set, view_start}
+use Rattle.dts_tree.specs.Inside.State.{label_of}
+use Rattle.dts_tree.specs.Inside.View as view
+use Rattle.dts_tree.specs.Inside.Reader.{spot_of, label_in, name_in, view_by, Held, Kept, EarlierFrom, Went, pending}
+use Rattle.dts_tree.proofs.PieceLemmas.{values-more, parts-more, labels-more, parts_of-none, range-rest}
 
-pub all_below-push : {X : Type 0} (f : X → ℕ) (n : ℕ) (xs : List X) (x : X) → AllBelow n (map f xs) → f x < n → AllBelow n (map f (xs ++ x ∷ []))
-all_below-push f n [] x h new = (new, tt)
-all_below-push f n (y ∷ ys) x h new = (h.0, all_below-push f n ys x h.1 new)
+-- ---- entries that are put
 
-pub all_below-wider : (n m : ℕ) (xs : List ℕ) → n ≤ m → AllBelow n xs → AllBelow m xs
-all_below-wider n m [] le h = tt
-all_below-wider n m (x ∷ xs) le h = (omega (arith, le, h.0), all_below-wider n m xs le h.1)
+module _ {V : Type 0} (P : (ℕ × List ℕ) × V → Type 0) where
+  pub all-keep : (es : List ((ℕ × List ℕ) × V)) (key : ℕ × List ℕ) (v : V) → AllByRecursion P es → P (key, v) → AllByRecursion P (keep_entry same_name es key v)
+  all-keep [] key v h new = (new, tt)
+  all-keep (e ∷ es) key v h new =
+      elim (same_name key e.0) as (λ (b : Bool). AllByRecursion P (cond b (e ∷ es) (e ∷ keep_entry same_name es key v))) [ true ↦ h | false ↦ (h.0, all-keep es key v h.1 new) ]
 
-pub all_below-id : (n : ℕ) (xs : List ℕ) → AllBelow n xs → AllBelow n (map (λ (x : ℕ). x) xs)
-all_below-id n [] h = tt
-all_below-id n (x ∷ xs) h = (h.0, all_below-id n xs h.1)
+  pub all-insert : (es : List ((ℕ × List ℕ) × V)) (key : ℕ × List ℕ) (v : V) → AllByRecursion P es → P (key, v) → ((e : (ℕ × List ℕ) × V) → P e → P (e.0, v)) → AllByRecursion P (insert_entry same_name es key v)
+  all-insert [] key v h new other = (new, tt)
+  all-insert (e ∷ es) key v h new other =
+      elim (same_name key e.0) as (λ (b : Bool). AllByRecursion P (cond b ((e.0, v) ∷ es) (e ∷ insert_entry same_name es key v))) [ true ↦ (other e h.0, h.1) | false ↦ (h.0, all-insert es key v h.1 new other) ]
 
--- two functions that agree on nodes below n
-pub map-same : {X Y : Type 0} (f : X → ℕ) (g h : X → Y) (n : ℕ) (xs : List X) → ((x : X) → f x < n → g x ≡ h x) → AllBelow n (map f xs) → map g xs ≡ map h xs
-map-same f g h n [] same below = refl
-map-same f g h n (x ∷ xs) same below = ap (λ y. y ∷ map g xs) (same x below.0) ∙ ap (λ ys. h x ∷ ys) (map-same f g h n xs same below.1)
+  pub all-push : (es : List ((ℕ × List ℕ) × V)) (e : (ℕ × List ℕ) × V) → AllByRecursion P es → P e → AllByRecursion P (es ++ e ∷ [])
+  all-push [] e h last = (last, tt)
+  all-push (x ∷ xs) e h last = (h.0, all-push xs e h.1 last)
 
--- ---- labels
-pub lookup-labels : (paths : List (List ℕ)) (w : ℕ) (es : List (ℕ × ℕ)) → lookup (nat_eq w) (map (label_at paths) es) ≡ option_map (path_at paths) (lookup (nat_eq w) es)
-lookup-labels paths w [] = refl
-lookup-labels paths w (e ∷ es) =
-    ⊎_elim
-    (λ here_e. rw here_e refl)
-    (λ not_e. rw not_e (lookup-labels paths w es))
-    (cases_Bool (nat_eq w e.0))
+pub all-weaker : {X : Type 0} (P Q : X → Type 0) (xs : List X) → ((x : X) → P x → Q x) → AllByRecursion P xs → AllByRecursion Q xs
+all-weaker P Q [] w h = tt
+all-weaker P Q (x ∷ xs) w h = (w x h.0, all-weaker P Q xs w h.1)
 
-pub lookup-below : (n k w : ℕ) (es : List (ℕ × ℕ)) → AllBelow n (map (λ e. e.1) es) → lookup (nat_eq w) es ≡ Some k → k < n
-lookup-below n k w [] h is = absurd (cc)
-lookup-below n k w (e ∷ es) h is =
-    ⊎_elim
-    (λ here_e.
-    let found : Some e.1 ≡ Some k = sym (cond-true (nat_eq w e.0) (Some e.1) (lookup (nat_eq w) es) here_e) ∙ is in
-    let same : e.1 ≡ k = cc in subst (λ (j : ℕ). j < n) same h.0)
-    (λ not_e. lookup-below n k w es h.1 (sym (cond-false (nat_eq w e.0) (Some e.1) (lookup (nat_eq w) es) not_e) ∙ is))
-    (cases_Bool (nat_eq w e.0))
+pub numbers-push : (m : ℕ) (ks : List ℕ) (k : ℕ) → AllByRecursion (λ x. x ≤ m) ks → k ≤ m → AllByRecursion (λ x. x ≤ m) (ks ++ k ∷ [])
+numbers-push m [] k h last = (last, tt)
+numbers-push m (x ∷ xs) k h last = (h.0, numbers-push m xs k h.1 last)
 
-insert-labels : (paths : List (List ℕ)) (w node : ℕ) (es : List (ℕ × ℕ)) → map (label_at paths) (insert_entry nat_eq es w node) ≡ insert_entry nat_eq (map (label_at paths) es) w (path_at paths node)
-insert-labels paths w node [] = refl
-insert-labels paths w node (e ∷ es) =
-    ⊎_elim
-    (λ here_e. rw here_e refl)
-    (λ not_e. rw not_e (ap (λ ls. label_at paths e ∷ ls) (insert-labels paths w node es)))
-    (cases_Bool (nat_eq w e.0))
+pub numbers-front : (m : ℕ) (ks : List ℕ) (k : ℕ) → AllByRecursion (λ x. x ≤ m) (ks ++ k ∷ []) → AllByRecursion (λ x. x ≤ m) ks × (k ≤ m)
+numbers-front m [] k h = (tt, h.0)
+numbers-front m (x ∷ xs) k h = let r = numbers-front m xs k h.1 in ((h.0, r.0), r.1)
 
-insert-below : (n w node : ℕ) (es : List (ℕ × ℕ)) → node < n → AllBelow n (map (λ e. e.1) es) → AllBelow n (map (λ e. e.1) (insert_entry nat_eq es w node))
-insert-below n w node [] inside h = (inside, tt)
-insert-below n w node (e ∷ es) inside h =
-    ⊎_elim
-    (λ here_e. rw here_e (inside, h.1))
-    (λ not_e. rw not_e (h.0, insert-below n w node es inside h.1))
-    (cases_Bool (nat_eq w e.0))
+module _ {V : Type 0} where
+  pub length-keep : (es : List ((ℕ × List ℕ) × V)) (key : ℕ × List ℕ) (v : V) → (length es ≤ length (keep_entry same_name es key v)) × (length (keep_entry same_name es key v) ≤ length es + 1)
+  length-keep [] key v = (omega arith, omega arith)
+  length-keep (e ∷ es) key v =
+      elim (same_name key e.0) as (λ (b : Bool). (length (e ∷ es) ≤ length (cond b (e ∷ es) (e ∷ keep_entry same_name es key v))) × (length (cond b (e ∷ es) (e ∷ keep_entry same_name es key v)) ≤ length (e ∷ es) + 1)) [
+        | true ↦ (omega arith, omega arith)
+        | false ↦ (let r = length-keep es key v in (omega (arith, r.0), omega (arith, r.1)))
+      ]
 
-pub put-labels : (paths : List (List ℕ)) (node : ℕ) (es ws : List (ℕ × ℕ)) → map (label_at paths) (with_labels_at es node ws) ≡ with_labels nat_eq (map (label_at paths) es) (path_at paths node) ws
-put-labels paths node es [] = refl
-put-labels paths node es (w ∷ ws) = put-labels paths node (insert_entry nat_eq es w.0 node) ws ∙ ap (λ ls. with_labels nat_eq ls (path_at paths node) ws) (insert-labels paths w.0 node es)
+  pub length-insert : (es : List ((ℕ × List ℕ) × V)) (key : ℕ × List ℕ) (v : V) → length (insert_entry same_name es key v) ≤ length es + 1
+  length-insert [] key v = omega arith
+  length-insert (e ∷ es) key v =
+      elim (same_name key e.0) as (λ (b : Bool). length (cond b ((e.0, v) ∷ es) (e ∷ insert_entry same_name es key v)) ≤ length (e ∷ es) + 1) [
+        | true ↦ omega arith
+        | false ↦ (let r = length-insert es key v in omega (arith, r))
+      ]
 
-pub put-below : (n node : ℕ) (es ws : List (ℕ × ℕ)) → node < n → AllBelow n (map (λ e. e.1) es) → AllBelow n (map (λ e. e.1) (with_labels_at es node ws))
-put-below n node es [] inside h = h
-put-below n node es (w ∷ ws) inside h = put-below n node (insert_entry nat_eq es w.0 node) ws inside (insert-below n w.0 node es inside h)
+  pub place-inside : (p : ℕ × List ℕ → Bool) (es : List ((ℕ × List ℕ) × V)) (k : ℕ) → place_of p es ≡ Some k → k < length es
+  place-inside p [] k is = absurd (let e : None ≡ Some k = is in cc)
+  place-inside p (e ∷ es) k is =
+      elim (p e.0) as (λ (b : Bool). cond b (Some 0) (option_map (λ n. n + 1) (place_of p es)) ≡ Some k → k < length (e ∷ es)) [
+        | true ↦ λ h. (let z : 0 ≡ k = cc in omega (arith, z))
+        | false ↦ λ h. later (place_of p es) h (λ n there. place-inside p es n there)
+      ] is where
+        later : (o : Option ℕ) → option_map (λ n. n + 1) o ≡ Some k → ((n : ℕ) → o ≡ Some n → n < length es) → k < length (e ∷ es)
+        later None h inside = absurd (let no : None ≡ Some k = h in cc)
+        later (Some n) h inside = let z : n + 1 ≡ k = cc in omega (arith, z, inside n refl)
 
--- ---- a body is opened
-path_eq-refl : (p : List ℕ) → pointwise nat_eq p p ≡ true
-path_eq-refl p = (bytes_eq-Decides p p).1 refl
+pub earlier-keep : (k : ℕ) (es : List ((ℕ × List ℕ) × Opened)) (key : ℕ × List ℕ) (v : Opened) → EarlierFrom k es → key.0 ≤ k + length es → EarlierFrom k (keep_entry same_name es key v)
+earlier-keep k [] key v h low = (omega arith, tt)
+earlier-keep k (e ∷ es) key v h low =
+    elim (same_name key e.0) as (λ (b : Bool). EarlierFrom k (cond b (e ∷ es) (e ∷ keep_entry same_name es key v))) [ true ↦ h | false ↦ (h.0, earlier-keep (k + 1) es key v h.1 (omega arith)) ]
 
-path_eq-longer : (q p : List ℕ) → length q < length p → pointwise nat_eq q p ≡ false
-path_eq-longer q p less = false_from_ne_true (pointwise nat_eq q p) (λ e. omega (arith, less, ap length ((bytes_eq-Decides q p).0 e)))
+-- a map over the values of entries
+pub map-insert : {V W : Type 0} (f : V → W) (es : List ((ℕ × List ℕ) × V)) (key : ℕ × List ℕ) (v : V) → map (λ e. (e.0, f e.1)) (insert_entry same_name es key v) ≡ insert_entry same_name (map (λ e. (e.0, f e.1)) es) key (f v)
+map-insert f [] key v = refl
+map-insert f (e ∷ es) key v =
+    elim (same_name key e.0) as (λ (b : Bool). map (λ e. (e.0, f e.1)) (cond b ((e.0, v) ∷ es) (e ∷ insert_entry same_name es key v)) ≡ cond b ((e.0, f v) ∷ map (λ e. (e.0, f e.1)) es) ((e.0, f e.1) ∷ insert_entry same_name (map (λ e. (e.0, f e.1)) es) key (f v))) [
+      | true ↦ refl
+      | false ↦ ap (λ xs. (e.0, f e.1) ∷ xs) (map-insert f es key v)
+    ]
 
-pub known-number : (nodes : List (List ℕ)) (k : ℕ) → k < length nodes → number_of nat_eq nodes (get_or nodes k []) < length nodes
-known-number nodes k inside =
-    ⊎_elim
-    (λ low. low)
-    (λ high.
-    let fails : pointwise nat_eq (get_or nodes k []) (get_or nodes k []) ≡ false = fails_before_first (pointwise nat_eq (get_or nodes k [])) nodes k [] (omega (arith, inside, high)) in
-    let no : true ≡ false = sym (path_eq-refl (get_or nodes k [])) ∙ fails in absurd (cc))
-    (cases_lt (number_of nat_eq nodes (get_or nodes k [])) (length nodes))
+-- ---- pieces that are put
 
-pub known-path : (nodes : List (List ℕ)) (k : ℕ) → k < length nodes → with_path nat_eq nodes (get_or nodes k []) ≡ nodes
-known-path nodes k inside = cond-true _ nodes (nodes ++ get_or nodes k [] ∷ []) (lt-ltb (number_of nat_eq nodes (get_or nodes k [])) (length nodes) (known-number nodes k inside))
+module _ (first : ℕ) (ps : List (Piece Place)) (open_ : List ℕ) (store : Store) (h : Held first ps open_ store) where
+  pub held_more : (now qs : List (Piece Place)) → now ≡ ps ++ qs → Held first now open_ store
+  held_more now qs is =
+      let longer : length ps ≤ length now = omega (arith, ap length is, length-append ps qs) in
+      record {
+        from = omega (arith, h.from, longer);
+        bodies = h.bodies;
+        earlier = h.earlier;
+        labels = h.labels;
+        owners = h.owners;
+        ranges = all-weaker _ _ store.properties (λ e low. omega (arith, low, longer)) h.ranges;
+      }
 
-pub open-reading : (nodes : List (List ℕ)) (bodies : List ℕ) (labels waiting : List (ℕ × ℕ)) (settings : List (Setting ℕ ℕ)) (node at : ℕ) → node < length nodes →
-    (bodies' : List ℕ) (labels' waiting' : List (ℕ × ℕ)) (settings' : List (Setting ℕ ℕ)) → bodies' ≡ bodies ++ node ∷ [] → labels' ≡ with_labels_at labels node waiting → waiting' ≡ [] → settings' ≡ settings ++ Opens node at ∷ [] →
-    let before : Reading ℕ = record { paths = nodes; bodies = map (path_at nodes) (reverse bodies); labels = map (label_at nodes) labels; waiting = waiting; settings = map (with_path_at nodes) settings } in
-    let after : Reading ℕ = record { paths = nodes; bodies = map (path_at nodes) (reverse bodies'); labels = map (label_at nodes) labels'; waiting = waiting'; settings = map (with_path_at nodes) settings' } in
-    after ≡ opened nat_eq before (path_at nodes node) at
-open-reading nodes bodies labels waiting settings node at inside bodies' labels' waiting' settings' is_bodies is_labels is_waiting is_settings =
-    let b : map (path_at nodes) (reverse bodies') ≡ path_at nodes node ∷ map (path_at nodes) (reverse bodies) = ap (λ xs. map (path_at nodes) (reverse xs)) is_bodies ∙ ap (map (path_at nodes)) (reverse-append bodies (node ∷ [])) in
-    let l : map (label_at nodes) labels' ≡ with_labels nat_eq (map (label_at nodes) labels) (path_at nodes node) waiting = ap (map (label_at nodes)) is_labels ∙ put-labels nodes node labels waiting in
-    let s : map (with_path_at nodes) settings' ≡ map (with_path_at nodes) settings ++ Opens (path_at nodes node) at ∷ [] = ap (map (with_path_at nodes)) is_settings ∙ map-append (with_path_at nodes) settings (Opens node at ∷ []) in
-    rw (b, l, s, is_waiting, known-path nodes node inside) refl
+  -- the view behind more pieces
+  pub view_more : (text : List ℕ) (now qs : List (Piece Place)) (at : Spot) (waiting : List Token) (parts : List (Part Label)) (refs : List Label) → now ≡ ps ++ qs → parts ≡ fold with_piece (map (part_by (label_at text)) (parts_of (drop first ps))) (map (piece_by (label_at text)) qs) → refs ≡ labels_kept text ps ++ labels_kept text qs → record { spot = spot_of text at; bodies = reverse open_; waiting = map (label_in text) waiting; parts = parts; refs = refs; content = content_of text ps store } ≡ view_by text at open_ waiting first now store
+  view_more text now qs at waiting parts refs is of_parts of_refs =
+      let c : Content = content_of text ps store in
+      let bodies : List ℕ = reverse open_ in
+      let labels : List Label = map (label_in text) waiting in
+      ap (λ (xs : List (Part Label)). record { spot = spot_of text at; bodies = bodies; waiting = labels; parts = xs; refs = refs; content = c }) (of_parts ∙ sym (parts-more text first ps qs h.from))
+      ∙ ap (λ (ls : List Label). record { spot = spot_of text at; bodies = bodies; waiting = labels; parts = map (part_by (label_at text)) (parts_of (drop first (ps ++ qs))); refs = ls; content = c }) (of_refs ∙ sym (labels-more text ps qs))
+      ∙ ap (λ (es : List ((ℕ × List ℕ) × List (Part Label))). record { spot = spot_of text at; bodies = bodies; waiting = labels; parts = map (part_by (label_at text)) (parts_of (drop first (ps ++ qs))); refs = labels_kept text (ps ++ qs); content = record { root_at = store.root_at; children = store.children; labels = store.labels; properties = es } }) (sym (values-more text ps qs store.properties h.ranges))
+      ∙ ap (λ (xs : List (Piece Place)). view_by text at open_ waiting first xs store) (sym is)
 
--- ---- a child comes
-pub record Grown (old new : List (List ℕ)) (path : List ℕ) (node : ℕ) : Type 0 where
-  pub long : length old ≤ length new
-  pub count : length new ≤ length old + 1
-  pub same : (k : ℕ) → k < length old → get_or new k [] ≡ get_or old k []
-  pub other : (k : ℕ) → length old ≤ k → (get_or new k [] ≡ path) ⊎ (get_or new k [] ≡ [])
-  pub inside : node < length new
-  pub at : get_or new node [] ≡ path
+-- ---- a property that is set
 
-number-le : (paths : List (List ℕ)) (path : List ℕ) → number_of nat_eq paths path ≤ length paths
-number-le paths path = prefix_len-le-length (λ x. not (pointwise nat_eq path x)) paths
+module _ (first : ℕ) (ps : List (Piece Place)) (open_ : List ℕ) (store : Store) (h : Held first ps open_ store) (node : ℕ) (name : List ℕ) (inside : node ≤ length store.children) where
+  abbrev span : Span
+  span = record { from = first; to = length ps }
 
-pub grown : (old new : List (List ℕ)) (path : List ℕ) (node : ℕ) → new ≡ with_path nat_eq old path → node ≡ number_of nat_eq old path → Grown old new path node
-grown old new path node is_new is_node =
-    ⊎_elim
-    (λ there.
-    let stays : new ≡ old = is_new ∙ cond-true _ old (old ++ path ∷ []) (lt-ltb (number_of nat_eq old path) (length old) there) in
-    let passes : pointwise nat_eq path (get_or old (number_of nat_eq old path) []) ≡ true = passes_at_first (pointwise nat_eq path) old [] there in
-    let equal : path ≡ get_or old (number_of nat_eq old path) [] = (bytes_eq-Decides path (get_or old (number_of nat_eq old path) [])).0 passes in
-    record {
-      long = rw stays (omega arith);
-      count = rw stays (omega arith);
-      same = λ k in_k. ap (λ ps. get_or ps k []) stays;
-      other = λ k past. inr (ap (λ ps. get_or ps k []) stays ∙ get_or_past old k [] past);
-      inside = rw (stays, is_node) there;
-      at = rw (stays, is_node) (sym equal);
-    })
-    (λ absent.
-    let grows : new ≡ old ++ path ∷ [] = is_new ∙ cond-false _ old (old ++ path ∷ []) (le-ltb (number_of nat_eq old path) (length old) absent) in
-    let last : length old ≡ node = omega (arith, absent, is_node, number-le old path) in
-    record {
-      long = rw grows (omega (arith, length_push old path));
-      count = rw grows (omega (arith, length_push old path));
-      same = λ k in_k. rw grows (get_or_append_left old (path ∷ []) [] k in_k);
-      other = λ k past. ⊎_elim
-          (λ here_k. inl (rw grows (get_or_push old path [] k here_k)))
-          (λ beyond. inr (rw grows (get_or_past (old ++ path ∷ []) k [] (omega (arith, beyond, past, length_push old path)))))
-          (cases_eq (length old) k);
-      inside = rw grows (omega (arith, last, length_push old path));
-      at = rw grows (get_or_push old path [] node last);
-    })
-    (cases_lt (number_of nat_eq old path) (length old))
+  abbrev set_store : List ((ℕ × List ℕ) × Span) → Store
+  set_store properties = record { root_at = store.root_at; children = store.children; labels = store.labels; properties = properties }
 
--- ---- where labels stand, by numbers and by paths
-pub elsewhere-number : (nodes : List (List ℕ)) (entries : List (ℕ × ℕ)) (path : List ℕ) (node : Option ℕ) (ws : List (ℕ × ℕ)) → ((j : ℕ) → j < length nodes → stands_off node (Some j) ≡ stands_elsewhere nat_eq path (Some (path_at nodes j))) → AllBelow (length nodes) (map (λ e. e.1) entries) → elsewhere_by_number entries node ws ≡ elsewhere nat_eq (map (label_at nodes) entries) path ws
-elsewhere-number nodes entries path at [] h below = refl
-elsewhere-number nodes entries path at (w ∷ ws) h below =
-    let off : (o : Option ℕ) → lookup (nat_eq w.0) entries ≡ o → stands_off at o ≡ stands_elsewhere nat_eq path (option_map (path_at nodes) o) =
-    λ o. elim o as (λ o. lookup (nat_eq w.0) entries ≡ o → stands_off at o ≡ stands_elsewhere nat_eq path (option_map (path_at nodes) o)) [ None ↦ (λ is. refl) | Some j ↦ (λ is. h j (lookup-below (length nodes) j w.0 entries below is)) ] in
-    let here_w : stands_off at (lookup (nat_eq w.0) entries) ≡ stands_elsewhere nat_eq path (lookup (nat_eq w.0) (map (label_at nodes) entries)) =
-    off (lookup (nat_eq w.0) entries) refl ∙ ap (stands_elsewhere nat_eq path) (sym (lookup-labels nodes w.0 entries)) in
-    ap (λ b. cond b (Some w.1) (elsewhere_by_number entries at ws)) here_w
-    ∙ ap (λ o. cond (stands_elsewhere nat_eq path (lookup (nat_eq w.0) (map (label_at nodes) entries))) (Some w.1) o) (elsewhere-number nodes entries path at ws h below)
-
--- no node is as deep as this path
-pub deep-elsewhere : (nodes : List (List ℕ)) (entries : List (ℕ × ℕ)) (path : List ℕ) (ws : List (ℕ × ℕ)) → ((k : ℕ) → length (path_at nodes k) ≤ 32) → 32 < length path → AllBelow (length nodes) (map (λ e. e.1) entries) → elsewhere_by_number entries None ws ≡ elsewhere nat_eq (map (label_at nodes) entries) path ws
-deep-elsewhere nodes entries path ws shallow deep below =
-    elsewhere-number nodes entries path None ws (λ j in_j. sym (ap not (path_eq-longer (path_at nodes j) path (omega (arith, shallow j, deep))))) below
-
--- the labels stand at nodes that are there
-pub shallow-elsewhere : (nodes : List (List ℕ)) (entries : List (ℕ × ℕ)) (path : List ℕ) (k : ℕ) (ws : List (ℕ × ℕ)) → k < length nodes → get_or nodes k [] ≡ path → ((i j : ℕ) → i < length nodes → j < length nodes → pointwise nat_eq (get_or nodes i []) (get_or nodes j []) ≡ nat_eq i j) → AllBelow (length nodes) (map (λ e. e.1) entries) → elsewhere_by_number entries (Some k) ws ≡ elsewhere nat_eq (map (label_at nodes) entries) path ws
-shallow-elsewhere nodes entries path k ws inside is apart below =
-    elsewhere-number nodes entries path (Some k) ws (λ j in_j. ap not (sym (apart j k in_j inside) ∙ ap (pointwise nat_eq (get_or nodes j [])) is)) below
-
-module _ (r : Reader) (new : List (List ℕ)) (path : List ℕ) (k : ℕ) (h : Standing r) (g : Grown r.nodes new path k) where
-  pub labels-grown : map (label_at new) r.labels ≡ map (label_at r.nodes) r.labels
-  labels-grown = map-same (λ (e : ℕ × ℕ). e.1) (label_at new) (label_at r.nodes) (length r.nodes) r.labels (λ e below. ap (λ p. (e.0, p)) (g.same e.1 below)) h.labels
-
-  setting-grown : (s : Setting ℕ ℕ) → node_of s < length r.nodes → with_path_at new s ≡ with_path_at r.nodes s
-  setting-grown (Opens node at) below = ap (λ p. Opens p at) (g.same node below)
-  setting-grown (Sets node name from to) below = ap (λ p. Sets p name from to) (g.same node below)
-
-  bodies-grown : map (path_at new) (reverse r.bodies.items) ≡ map (path_at r.nodes) (reverse r.bodies.items)
-  bodies-grown = map-same (λ (n : ℕ). n) (path_at new) (path_at r.nodes) (length r.nodes) (reverse r.bodies.items) (λ n below. g.same n below) (all_below-id (length r.nodes) (reverse r.bodies.items) h.bodies)
-
-  pub reading-grown : reading (record r { nodes = new }) ≡ record (reading r) { paths = new }
-  reading-grown = rw (labels-grown, bodies-grown, map-same node_of (with_path_at new) (with_path_at r.nodes) (length r.nodes) r.settings.items setting-grown h.settings) refl
-
-  pub standing-grown : length path ≤ 32 → Standing (record r { nodes = new })
-  standing-grown short = record {
-    some = omega (arith, h.some, g.long);
-    root = g.same 0 h.some ∙ h.root;
-    shallow = λ n. ⊎_elim
-        (λ low. rw (g.same n low) (h.shallow n))
-        (λ high. ⊎_elim (λ e. rw e short) (λ e. rw e (omega arith)) (g.other n high))
-        (cases_lt n (length r.nodes));
-    bodies = all_below-wider (length r.nodes) (length new) (reverse r.bodies.items) g.long h.bodies;
-    labels = all_below-wider (length r.nodes) (length new) (map (λ e. e.1) r.labels) g.long h.labels;
-    settings = all_below-wider (length r.nodes) (length new) (map node_of r.settings.items) g.long h.settings;
+  pub held_set : (now : List ((ℕ × List ℕ) × Span)) → now ≡ insert_entry same_name store.properties (node, name) span → Held (length ps) ps open_ (set_store now)
+  held_set now is = record {
+    from = omega arith;
+    bodies = h.bodies;
+    earlier = h.earlier;
+    labels = h.labels;
+    owners = subst (AllByRecursion (λ e. e.0.0 ≤ length store.children)) (sym is) (all-insert (λ e. e.0.0 ≤ length store.children) store.properties (node, name) span h.owners inside (λ e low. low));
+    ranges = subst (AllByRecursion (λ e. e.1.to ≤ length ps)) (sym is) (all-insert (λ e. e.1.to ≤ length ps) store.properties (node, name) span h.ranges (omega arith) (λ e low. omega arith));
   }
 
-  pub opened-grown : (at : ℕ) → new ≡ with_path nat_eq r.nodes path → opened nat_eq (reading (record r { nodes = new })) (path_at new k) at ≡ opened nat_eq (reading r) path at
-  opened-grown at is =
-      let again : with_path nat_eq new path ≡ with_path nat_eq r.nodes path = ap (with_path nat_eq new) (sym g.at) ∙ (known-path new k g.inside ∙ is) in
-      ap (λ q. opened nat_eq q (path_at new k) at) reading-grown
-      ∙ (ap (λ p. opened nat_eq (record (reading r) { paths = new }) p at) g.at
-      ∙ ap (λ (ps : List (List ℕ)). record (opened nat_eq (reading r) path at) { paths = ps }) again)
+  pub view_set_is : (text : List ℕ) (was at : Spot) (waiting : List Token) (now : List ((ℕ × List ℕ) × Span)) → spot_of text at ≡ view.Inside → node ≡ view.here (reverse open_) → now ≡ insert_entry same_name store.properties (node, name) span → view_set (view_by text was open_ waiting first ps store) name ≡ view_by text at open_ waiting (length ps) ps (set_store now)
+  view_set_is text was at waiting now in_ here is =
+      let f = value_in text ps in
+      let parts : List (Part Label) = map (part_by (label_at text)) (parts_of (drop first ps)) in
+      let old : List ((ℕ × List ℕ) × List (Part Label)) = map (λ e. (e.0, f e.1)) store.properties in
+      let value : f span ≡ parts = ap (λ xs. map (part_by (label_at text)) (parts_of xs)) (range-rest first ps) in
+      let all : insert_entry same_name old (view.here (reverse open_), name) parts ≡ map (λ e. (e.0, f e.1)) now =
+      ap (λ k. insert_entry same_name old (k, name) parts) (sym here)
+      ∙ ap (λ v. insert_entry same_name old (node, name) v) (sym value)
+      ∙ sym (map-insert f store.properties (node, name) span)
+      ∙ ap (map (λ e. (e.0, f e.1))) (sym is) in
+      let none : [] ≡ map (part_by (label_at text)) (parts_of (drop (length ps) ps)) = sym (ap (λ xs. map (part_by (label_at text)) (parts_of xs)) (drop_all (length ps) ps (omega arith)) ∙ ap (map (part_by (label_at text))) parts_of-none) in
+      ap (λ (es : List ((ℕ × List ℕ) × List (Part Label))). record { spot = view.Inside; bodies = reverse open_; waiting = map (label_in text) waiting; parts = []; refs = labels_kept text ps; content = record { root_at = store.root_at; children = store.children; labels = store.labels; properties = es } }) all
+      ∙ ap (λ (xs : List (Part Label)). record { spot = view.Inside; bodies = reverse open_; waiting = map (label_in text) waiting; parts = xs; refs = labels_kept text ps; content = content_of text ps (set_store now) }) none
+      ∙ ap (λ (s : view.Spot). record { spot = s; bodies = reverse open_; waiting = map (label_in text) waiting; parts = map (part_by (label_at text)) (parts_of (drop (length ps) ps)); refs = labels_kept text ps; content = content_of text ps (set_store now) }) (sym in_)
 
--- ---- step by step
+-- ---- bodies
 
-pub last_first : (xs : List ℕ) (x : ℕ) → 0 < length xs → x ≡ get_or xs (length xs - 1) x → reverse xs ≡ x ∷ reverse (take (length xs - 1) xs)
-last_first xs x some is =
-    let last = length xs - 1 in
-    ap reverse (sym (take_all (last + 1) xs (omega arith)) ∙ take_more xs last x (omega arith))
-    ∙ reverse-append (take last xs) (get_or xs last x ∷ [])
-    ∙ ap (λ y. y ∷ reverse (take last xs)) (sym is)
+pub reverse-push : (ks : List ℕ) (k : ℕ) → reverse (ks ++ k ∷ []) ≡ k ∷ reverse ks
+reverse-push ks k = reverse-append ks (k ∷ [])
 
--- one waiting label more
-module _ (labels : List (ℕ × ℕ)) (node : Option ℕ) (ws : List (ℕ × ℕ)) (i : ℕ) (inside : i < length ws) (at : Option ℕ) (is : lookup (nat_eq (get_or ws i (0, 0)).0) labels ≡ at) where
-  elsewhere-next : (off : Bool) → stands_off node at ≡ off → elsewhere_by_number labels node (drop i ws) ≡ cond off (Some (get_or ws i (0, 0)).1) (elsewhere_by_number labels node (drop (i + 1) ws))
-  elsewhere-next off stands =
-      at_drop_more (elsewhere_by_number labels node) ws i (0, 0) inside
-      ∙ ap (λ b. cond b (Some (get_or ws i (0, 0)).1) (elsewhere_by_number labels node (drop (i + 1) ws))) (ap (stands_off node) is ∙ stands)
+-- ---- what was read by one token
 
-  pub elsewhere-here : stands_off node at ≡ true → Some (get_or ws i (0, 0)).1 ≡ elsewhere_by_number labels node (drop i ws)
-  elsewhere-here off = sym (elsewhere-next true off)
+module _ (text : List ℕ) (r : Reader) (kept : Kept r) where
+  -- pieces were put
+  pub went_more : (v : Vec (Piece Place) Global) (qs : List (Piece Place)) (at : Spot) (parts : List (Part Label)) (refs : List Label) → v.items ≡ r.pieces.items ++ qs → parts ≡ fold with_piece (map (part_by (label_at text)) (parts_of (drop r.from r.pieces.items))) (map (piece_by (label_at text)) qs) → refs ≡ labels_kept text r.pieces.items ++ labels_kept text qs → pending r.spot ≡ 1 → pending at ≡ 1
+      → Went (Ok (record { spot = spot_of text at; bodies = reverse r.bodies.items; waiting = map (label_in text) r.waiting.items; parts = parts; refs = refs; content = content_of text r.pieces.items r.store })) text r (record { alloc = r.alloc; spot = at; bodies = r.bodies; waiting = r.waiting; from = r.from; pieces = v; store = r.store })
+  went_more v qs at parts refs is of_parts of_refs was now = record {
+    view = ap Ok (view_more r.from r.pieces.items r.bodies.items r.store kept text v.items qs at r.waiting.items parts refs is of_parts of_refs);
+    kept = held_more r.from r.pieces.items r.bodies.items r.store kept v.items qs is;
+    counted = λ n h. (omega (arith, h.0, was, now), omega (arith, h.1, was, now));
+  }
 
-  pub elsewhere-later : stands_off node at ≡ false → elsewhere_by_number labels node (drop (i + 1) ws) ≡ elsewhere_by_number labels node (drop i ws)
-  elsewhere-later off = sym (elsewhere-next false off)
+-- a label by its place
+pub label_is : (text inner : List ℕ) (t : Token) (p : Place) → inner ≡ slice_range text (t.start + 1) t.end → p.at ≡ t.start → p.end ≡ t.end → label_of inner t.start ≡ label_at text p
+label_is text inner t p is at end =
+    ap (λ (n : List ℕ). label_of n t.start) (is ∙ ap (λ (k : ℕ). slice_range text (k + 1) t.end) (sym at) ∙ ap (λ (k : ℕ). slice_range text (p.at + 1) k) (sym end))
+    ∙ ap (label_of (slice_range text (p.at + 1) p.end)) (sym at)
 
-pub walked-ok : {N : Type 0} (eq : N → N → Bool) (r next : Reading N) (s : Said N) (ss : List (Said N)) → stepped eq r s ≡ Ok next → walked eq r (s ∷ ss) ≡ walked eq next ss
-unfolding walked
-walked-ok eq r next s ss is = ap (unless_fault eq (λ q. walked eq q ss)) is
+-- before the text
+pub new_view : (text bodies : List ℕ) (waiting : List Token) (pieces : List (Piece Place)) (store : Store) → bodies ≡ [] → waiting ≡ [] → pieces ≡ [] → store.root_at ≡ None → store.children ≡ [] → store.labels ≡ [] → store.properties ≡ [] → view_by text spot.Start bodies waiting 0 pieces store ≡ view_start
+unfolding view_start nothing parts_of
+new_view text bodies waiting pieces store b w p root children labels properties = rw (b, w, p, root, children, labels, properties) refl
 
-pub walked-fault : {N : Type 0} (eq : N → N → Bool) (r : Reading N) (s : Said N) (ss : List (Said N)) (fault : TreeFault) → stepped eq r s ≡ Err fault → walked eq r (s ∷ ss) ≡ Err fault
-unfolding walked
-walked-fault eq r s ss fault is = ap (unless_fault eq (λ q. walked eq q ss)) is
+-- the value of an entry that is there
+pub lookup-all : {V : Type 0} (P : V → Type 0) (p : ℕ × List ℕ → Bool) (es : List ((ℕ × List ℕ) × V)) (v : V) → AllByRecursion (λ e. P e.1) es → lookup p es ≡ Some v → P v
+lookup-all P p [] v h is = absurd (let e : None ≡ Some v = is in cc)
+lookup-all P p (e ∷ es) v h is =
+    elim (p e.0) as (λ (b : Bool). cond b (Some e.1) (lookup p es) ≡ Some v → P v) [
+      | true ↦ λ first. (let same : e.1 ≡ v = cc in subst P same h.0)
+      | false ↦ λ later. lookup-all P p es v h.1 later
+    ] is
 
-pub walked-end : {N : Type 0} (eq : N → N → Bool) (r : Reading N) → walked eq r [] ≡ Ok r
-unfolding walked
-walked-end eq r = refl
+-- ---- depths
 
-pub nothing_read-paths : length (nothing_read {N = ℕ}).paths ≡ 1
-unfolding nothing_read
-nothing_read-paths = refl
+pub depth-there : (es : List ((ℕ × List ℕ) × Opened)) (k : ℕ) (o : Opened) → Some o ≡ slice_get (map (λ e. e.1) es) k → slice_index_or (map (λ e. e.1.depth) es) k 0 ≡ o.depth
+depth-there [] k o is = absurd (let e : Some o ≡ None = is in cc)
+depth-there (e ∷ es) zero o is = let same : o ≡ e.1 = cc in ap (λ (x : Opened). x.depth) (sym same)
+depth-there (e ∷ es) (suc k) o is = depth-there es k o is
+
+pub depth-missing : (es : List ((ℕ × List ℕ) × Opened)) (k : ℕ) → None ≡ slice_get (map (λ e. e.1) es) k → slice_index_or (map (λ e. e.1.depth) es) k 0 ≡ 0
+depth-missing [] k is = refl
+depth-missing (e ∷ es) zero is = absurd (let no : None ≡ Some e.1 = is in cc)
+depth-missing (e ∷ es) (suc k) is = depth-missing es k is
+
+pub depth-some : (es : List ((ℕ × List ℕ) × Opened)) (node : ℕ) → 1 ≤ node → depth_of es node ≡ slice_index_or (map (λ e. e.1.depth) es) (node - 1) 0
+depth-some es zero h = absurd (omega arith)
+depth-some es (suc k) h = let e : k ≡ suc k - 1 = omega arith in ap (λ (n : ℕ). slice_index_or (map (λ e. e.1.depth) es) n 0) e
+
+-- ---- labels that wait
+
+module _ (text : List ℕ) (labels : List ((ℕ × List ℕ) × ℕ)) (node : Option ℕ) (waiting : List Token) (i : ℕ) (d : Token) (inside : i < length waiting) where
+  elsewhere-next : elsewhere labels node (map (label_in text) (drop i waiting)) ≡ cond (stands_off node (node_of labels (name_in text (get_or waiting i d)))) (Some (get_or waiting i d).start) (elsewhere labels node (map (label_in text) (drop (i + 1) waiting)))
+  elsewhere-next = ap (λ ws. elsewhere labels node (map (label_in text) ws)) (drop_more waiting i d inside)
+
+  pub elsewhere-here : stands_off node (node_of labels (name_in text (get_or waiting i d))) ≡ true → elsewhere labels node (map (label_in text) (drop i waiting)) ≡ Some (get_or waiting i d).start
+  elsewhere-here off = elsewhere-next ∙ ap (λ b. cond b (Some (get_or waiting i d).start) (elsewhere labels node (map (label_in text) (drop (i + 1) waiting)))) off
+
+  pub elsewhere-later : stands_off node (node_of labels (name_in text (get_or waiting i d))) ≡ false → elsewhere labels node (map (label_in text) (drop i waiting)) ≡ elsewhere labels node (map (label_in text) (drop (i + 1) waiting))
+  elsewhere-later off = elsewhere-next ∙ ap (λ b. cond b (Some (get_or waiting i d).start) (elsewhere labels node (map (label_in text) (drop (i + 1) waiting)))) off
+
+-- ---- a child that is opened
+
+pub labels-all : (m node : ℕ) (ls : List Label) (labels : List ((ℕ × List ℕ) × ℕ)) → node ≤ m → AllByRecursion (λ e. e.1 ≤ m) labels → AllByRecursion (λ e. e.1 ≤ m) (with_labels labels node ls)
+labels-all m node [] labels low h = h
+labels-all m node (l ∷ ls) labels low h = labels-all m node ls (keep_entry same_name labels (0, l.name) node) low (all-keep (λ e. e.1 ≤ m) labels (0, l.name) node h low)
+
+module _ (text : List ℕ) (was : Spot) (bodies : List ℕ) (waiting : List Token) (first : ℕ) (ps : List (Piece Place)) (store : Store) (word : List ℕ) (at depth place : ℕ) (children : List ((ℕ × List ℕ) × Opened)) (labels : List ((ℕ × List ℕ) × ℕ)) where
+  abbrev labels_waiting : List Label
+  labels_waiting = map (label_in text) waiting
+
+  abbrev opened_store : Store
+  opened_store = record { root_at = store.root_at; children = children; labels = labels; properties = store.properties }
+
+  abbrev new_child : Opened
+  new_child = record { at = at; depth = depth + 1 }
+
+  -- the view behind the brace of a child of the node k
+  abbrev opened_view : List ((ℕ × List ℕ) × Opened) → List ((ℕ × List ℕ) × ℕ) → ℕ → View
+  opened_view es ls node = record {
+    spot = view.Inside;
+    bodies = node ∷ reverse bodies;
+    waiting = [];
+    parts = map (part_by (label_at text)) (parts_of (drop first ps));
+    refs = labels_kept text ps;
+    content = record { root_at = store.root_at; children = es; labels = ls; properties = values_kept text ps store.properties };
+  }
+
+  -- what is known where the child of a parent was opened
+  pub record IsOpened (parent : ℕ) : Type 0 where
+    pub free : None ≡ elsewhere store.labels (child_of store.children parent word) labels_waiting
+    pub deep : depth ≡ depth_of store.children parent
+    pub shallow : depth < 32
+    pub put : children ≡ keep_entry same_name store.children (parent, word) new_child
+    pub there : place_of (same_name (parent, word)) children ≡ Some place
+    pub labelled : labels ≡ with_labels store.labels (place + 1) labels_waiting
+
+  opened-at : (k : ℕ) → k ≡ view.here (reverse bodies) → IsOpened k → view.open_child (view_by text was bodies waiting first ps store) word at ≡ Ok (opened_view children labels (place + 1))
+  opened-at k here o =
+      let c : Content = content_of text ps store in
+      let v : View = view_by text was bodies waiting first ps store in
+      let put : Opened → List ((ℕ × List ℕ) × Opened) = λ x. keep_entry same_name store.children (k, word) x in
+      let same : put (record { at = at; depth = depth_of store.children k + 1 }) ≡ children = ap (λ (n : ℕ). put (record { at = at; depth = n + 1 })) (sym o.deep) ∙ sym o.put in
+      let less : nat_lt (depth_of store.children k) 32 ≡ true = lt-ltb (depth_of store.children k) 32 (omega (arith, o.deep, o.shallow)) in
+      let number : or_root (child_of children k word) ≡ place + 1 = ap (λ (p : Option ℕ). or_root (option_map (λ n. n + 1) p)) o.there in
+      let open_ : ℕ → Option ℕ → Result View TreeFault = λ n p. unless_fault (λ d. Ok (view.view_opened v word d)) (opened c n word at labels_waiting p) in
+      ap (λ (n : ℕ). open_ n (elsewhere store.labels (child_of store.children n word) labels_waiting)) (sym here)
+      ∙ ap (open_ k) (sym o.free)
+      ∙ ap (λ (b : Bool). unless_fault (λ d. Ok (view.view_opened v word d)) (cond b (Ok (with_child c k word at labels_waiting)) (Err (TooDeep at)))) less
+      ∙ ap (λ (es : List ((ℕ × List ℕ) × Opened)). Ok (opened_view es (with_labels store.labels (or_root (child_of es k word)) labels_waiting) (or_root (child_of es (view.here (reverse bodies)) word)))) same
+      ∙ ap (λ (n : ℕ). Ok (opened_view children (with_labels store.labels (or_root (child_of children k word)) labels_waiting) (or_root (child_of children n word)))) (sym here)
+      ∙ ap (λ (n : ℕ). Ok (opened_view children (with_labels store.labels n labels_waiting) n)) number
+      ∙ ap (λ (ls : List ((ℕ × List ℕ) × ℕ)). Ok (opened_view children ls (place + 1))) (sym o.labelled)
+
+  pub opened_is : (k : ℕ) → k ≡ view.here (reverse bodies) → IsOpened k → (now : List ℕ) (left : List Token) → now ≡ bodies ++ (place + 1) ∷ [] → left ≡ [] → view.open_child (view_by text was bodies waiting first ps store) word at ≡ Ok (view_by text spot.Inside now left first ps opened_store)
+  opened_is k here o now left is none =
+      opened-at k here o
+      ∙ ap (λ (ks : List ℕ). Ok (record (opened_view children labels (place + 1)) { bodies = ks })) (sym (ap reverse is ∙ reverse-push bodies (place + 1)))
+      ∙ ap (λ (ts : List Token). Ok (record (opened_view children labels (place + 1)) { bodies = reverse now; waiting = map (label_in text) ts })) (sym none)
+
+  pub held_opened : (k : ℕ) → k ≤ length store.children → IsOpened k → Held first ps bodies store → (now : List ℕ) → now ≡ bodies ++ (place + 1) ∷ [] → Held first ps now opened_store
+  held_opened k inside o h now is =
+      let long = length-keep store.children (k, word) new_child in
+      let more : length store.children ≤ length children = omega (arith, long.0, ap length o.put) in
+      let there : place + 1 ≤ length children = omega (arith, place-inside (same_name (k, word)) children place o.there) in
+      record {
+        from = h.from;
+        bodies = subst (AllByRecursion (λ x. x ≤ length children)) (sym is) (numbers-push (length children) bodies (place + 1) (all-weaker _ _ bodies (λ x low. omega (arith, low, more)) h.bodies) there);
+        earlier = subst (EarlierFrom 0) (sym o.put) (earlier-keep 0 store.children (k, word) new_child h.earlier (omega (arith, inside)));
+        labels = subst (AllByRecursion (λ e. e.1 ≤ length children)) (sym o.labelled) (labels-all (length children) (place + 1) labels_waiting store.labels there (all-weaker _ _ store.labels (λ e low. omega (arith, low, more)) h.labels));
+        owners = all-weaker _ _ store.properties (λ e low. omega (arith, low, more)) h.owners;
+        ranges = h.ranges;
+      }
+
+-- a child's number lies within those that there may be
+pub child_fits : (es now : List ((ℕ × List ℕ) × Opened)) (key : ℕ × List ℕ) (v : Opened) (place : ℕ) → now ≡ keep_entry same_name es key v → place_of (same_name key) now ≡ Some place → length es < 4294967294 → place + 1 < 4294967296
+child_fits es now key v place is there few =
+    let long = length-keep es key v in
+    let inside = place-inside (same_name key) now place there in
+    omega (arith, long.1, inside, ap length is, few)

@@ -5,7 +5,7 @@ use Rattle.std.proofs.Math.Logic.{⊎_elim}
 use Rattle.std.specs.List.{AllByRecursion, range_with_len, flat_map, position_or_len}
 use Rattle.std.proofs.lemmas.Bool.{cases_eq, cases_lt, cases_Bool, cond-true, cond-false, eq-eqb, ne_eqb, eqb-true, lt-ltb, le-ltb}
 use Rattle.std.proofs.lemmas.List.{length-append, length_push, append-nil}
-use Rattle.dts_tree.specs.Inside.Order.{children_from, below, in_tree_order}
+use Rattle.dts_tree.specs.Order.{children_from, below, in_tree_order}
 use Rattle.dts_tree.proofs.OrderLemmas.{IsEarlier, block, block-step, filter-passes, filter-fails}
 
 -- ---- how many nodes there are

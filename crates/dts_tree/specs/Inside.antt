@@ -1,13 +1,19 @@
 -- What serves the contracts inside the crate, and nobody has to believe.
-pub mod Firsts
+pub mod Below
+pub mod Inner
 pub mod Kept
-pub mod Known
 pub mod Layout
+pub mod Links
+pub mod Listing
+pub mod Made
 pub mod Numbered
-pub mod Numbers
-pub mod Order
 pub mod Phandles
+pub mod Pieces
 pub mod Reader
-pub mod Rename
 pub mod Rest
-pub mod Within
+pub mod Run
+pub mod Sane
+pub mod State
+pub mod Stored
+pub mod Strings
+pub mod View

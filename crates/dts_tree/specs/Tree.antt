@@ -1,50 +1,49 @@
--- What callers see of a tree.
-use Rattle.std.specs.Prelude.{ℕ, List, [], ◌∷◌, Option, Some, None, map, slice_index_or, slice_range}
-use Rattle.std.specs.Map.{lookup}
-use Rattle.std.specs.Str.{bytes_eq}
-use Rattle.std.specs.Cmp.Lexicographic.{pointwise}
-use Rattle.dts_lex.specs.declared.token.Token.{Token}
-use Rattle.dts_tree.specs.Path.{number_of}
-use Rattle.dts_tree.specs.Reading.{Reading}
-use Rattle.dts_tree.specs.Shape.{tree_order_of}
-use Rattle.dts_tree.specs.Settled.{first_place, values_of, same_property}
+-- The tree of a text as plain data.
+use Rattle.std.specs.Prelude.{ℕ, zero, suc, List, [], ◌∷◌, Option, Some, None, filter, map, nat_eq, slice_index_or}
+use Rattle.std.specs.List.{position_or_len}
+use Rattle.std.specs.Option.{option_map_or}
+use Rattle.dts_tree.specs.Value.{Property, part_by}
+use Rattle.dts_tree.specs.Content.{Content, node_of, or_root}
+use Rattle.dts_tree.specs.Order.{in_tree_order}
 
--- The paths of the nodes in tree order, where the name of each stands that is opened first, the
--- values of properties by the path of their node and their name, each as the tokens that it is, and
--- the labels with the paths of their nodes. A path has the names from a node upwards.
-pub record DeviceTree : Type 0 where
-  pub text : List ℕ
-  pub nodes : List (List (List ℕ))
-  pub places : List ℕ
-  pub values : List ((List (List ℕ) × List ℕ) × List Token)
-  pub labels : List (List ℕ × List (List ℕ))
+-- A node with its name, which is empty for the root; its parent, which the root alone has not; the place
+-- of the name in its first body (the root's first slash, or 0); and its properties in order. Nodes are
+-- numbered in tree order.
+pub record Node : Type 0 where
+  pub name : List ℕ
+  pub parent : Option ℕ
+  pub at : ℕ
+  pub properties : List (Property ℕ)
 
--- a value as the tokens that it is
-abbrev pub with_tokens : {K : Type 0} → List Token → K × (ℕ × ℕ) → K × List Token
-with_tokens tokens v = (v.0, slice_range tokens v.1.0 v.1.1)
+-- the parents of the nodes as they are numbered while a text is read; the root's is never looked at
+abbrev pub parents_of : Content → List ℕ
+parents_of c = 0 ∷ map (λ e. e.0.0) c.children
 
--- the tree of what was read of a text
-abbrev pub tree_of : List ℕ → List Token → Reading (List ℕ) → DeviceTree
-tree_of text tokens r =
-    let nodes = tree_order_of bytes_eq r.paths in
-    record {
-      text = text;
-      nodes = nodes;
-      places = map (λ path. first_place (pointwise bytes_eq path) r.settings) nodes;
-      values = map (with_tokens tokens) (values_of (pointwise bytes_eq) bytes_eq r.settings);
-      labels = r.labels;
-    }
+-- the nodes in tree order, by those numbers
+abbrev pub order_of : Content → List ℕ
+order_of c = in_tree_order (parents_of c)
 
--- the name at the head of a path; the root has the empty name
-abbrev pub own_name : List (List ℕ) → List ℕ
-own_name [] = []
-own_name (name ∷ path) = name
+-- where a node stands in the order
+abbrev pub rank : List ℕ → ℕ → ℕ
+rank order k = position_or_len (nat_eq k) order
 
--- the number of a node's parent; the root has none
-abbrev pub parent_among : List (List (List ℕ)) → List (List ℕ) → Option ℕ
-parent_among nodes [] = None
-parent_among nodes (name ∷ path) = Some (number_of bytes_eq nodes path)
+-- the properties of a node in order of their first settings, with the numbers of nodes in place of
+-- labels; a tree has no label without a node
+abbrev pub properties_of : Content → List ℕ → ℕ → List (Property ℕ)
+properties_of c order k =
+    map (λ e. record { name = e.0.1; parts = map (part_by (λ l. rank order (or_root (node_of c.labels l.name)))) e.1 })
+    (filter (λ e. nat_eq e.0.0 k) c.properties)
 
--- the tokens of a property's value, where the node has the property
-abbrev pub value_in : DeviceTree → ℕ → List ℕ → Option (List Token)
-value_in t node name = lookup (same_property (pointwise bytes_eq) bytes_eq (slice_index_or t.nodes node [], name)) t.values
+-- a node by its number while the text is read
+abbrev pub node_in : Content → List ℕ → ℕ → Node
+node_in c order zero = record { name = []; parent = None; at = option_map_or (λ at. at) c.root_at 0; properties = properties_of c order 0 }
+node_in c order (suc k) = record {
+  name = slice_index_or (map (λ e. e.0.1) c.children) k [];
+  parent = Some (rank order (slice_index_or (map (λ e. e.0.0) c.children) k 0));
+  at = slice_index_or (map (λ e. e.1.at) c.children) k 0;
+  properties = properties_of c order (suc k);
+}
+
+-- the tree of a content
+unfoldable pub tree_of : Content → List Node
+tree_of c = map (node_in c (order_of c)) (order_of c)

@@ -1,7 +1,7 @@
 ghost use Rattle.std.specs.Prelude.{◌≡◌, ◌≤◌, length};
 ghost use Rattle.dts_lex.specs.Lex.{lexed};
 
-use crate::node::{write_count, write_nodes, write_values};
+use crate::node::{write_count, write_nodes, write_values, write_walks};
 use dts_lex::{Kind, Token, is_last, lex};
 use dts_tree::parse;
 use std::alloc::{AllocError, Global};
@@ -17,6 +17,8 @@ pub(crate) enum Asked<'a> {
     Count,
     /// The values of this property of its root.
     Values(&'a str),
+    /// The way up from each node, and its properties.
+    Walk,
     /// How long each beginning of it is that has a tree.
     Prefixes,
 }
@@ -102,6 +104,7 @@ fn write_parsed(
         Ok(tree) => match asked {
             Asked::Values(property) => write_values(alloc, line, &tree, property.as_bytes()),
             Asked::Count => write_count(line, &tree, tokens.len()),
+            Asked::Walk => write_walks(line, &tree),
             _ => write_nodes(line, &tree),
         },
         Err(fault) => write!(line, "{fault:?}"),

@@ -23,7 +23,7 @@ pub(crate) fn write_count(line: &mut String, tree: &Tree, tokens: usize) -> Resu
 
 /// Appends a node as its name, its place and its parent.
 fn write_node(line: &mut String, tree: &Tree, node: u32) -> Result<(), AllocError>
-    requires { node < length tree.now.nodes }
+    requires { node < length tree.now }
 {
     push_bytes(line, tree.name(node))?;
     let at = tree.at(node);
@@ -33,6 +33,41 @@ fn write_node(line: &mut String, tree: &Tree, node: u32) -> Result<(), AllocErro
     }
 }
 
+/// Appends the way up from each node, and the names of its properties.
+pub(crate) fn write_walks(line: &mut String, tree: &Tree) -> Result<(), AllocError> {
+    for node in 0..tree.count() {
+        write_way_up(line, tree, node)?;
+        write_properties(line, tree, node)?;
+        line.push_str("; ")?;
+    }
+    Ok(())
+}
+
+/// Appends the names from a node up to the root.
+fn write_way_up(line: &mut String, tree: &Tree, from: u32) -> Result<(), AllocError>
+    requires { from < length tree.now }
+{
+    push_bytes(line, tree.name(from))?;
+    let mut node = from;
+    while let Some(parent) = tree.parent(node) {
+        line.push_str("<")?;
+        push_bytes(line, tree.name(parent))?;
+        node = parent;
+    }
+    Ok(())
+}
+
+/// Appends the names of a node's properties.
+fn write_properties(line: &mut String, tree: &Tree, node: u32) -> Result<(), AllocError>
+    requires { node < length tree.now }
+{
+    for prop in 0..tree.props(node) {
+        line.push_str(":")?;
+        push_bytes(line, tree.prop_name(node, prop))?;
+    }
+    Ok(())
+}
+
 /// Appends how many properties there are, whether the root has this one, and its cells and its strings.
 pub(crate) fn write_values(
     alloc: Global,
@@ -40,8 +75,7 @@ pub(crate) fn write_values(
     tree: &Tree,
     property: &[u8],
 ) -> Result<(), AllocError> {
-    let nodes = tree.count();
-    prove!(nodes > 0);
+    prove!(tree.count() > 0);
     let properties = tree.property_count();
     let has = if tree.has(0, property) { "has " } else { "" };
     write!(line, "{properties} {has}")?;
@@ -55,7 +89,7 @@ fn write_cells(
     tree: &Tree,
     property: &[u8],
 ) -> Result<(), AllocError>
-    requires { 0 < length tree.now.nodes }
+    requires { 0 < length tree.now }
 {
     match tree.cells(alloc, 0, property)? {
         Some(cells) => {
@@ -85,7 +119,7 @@ fn write_strings(
     tree: &Tree,
     property: &[u8],
 ) -> Result<(), AllocError>
-    requires { 0 < length tree.now.nodes }
+    requires { 0 < length tree.now }
 {
     match tree.strings(alloc, 0, property)? {
         Some(strings) => {

@@ -1,5 +1,5 @@
 use linear_range::{LinearRange, RangeTable};
-use std::alloc::Global;
+use std::alloc::{AllocError, Global};
 use std::io;
 
 /// The voltages go round from `LOWEST` µV by `STRIDE`, up to below `END`.
@@ -28,13 +28,23 @@ const BUCK: [LinearRange; 2] = [
 /// Looks voltages up in a table of two ranges, as many as each line of the standard input says, and prints a sum
 /// over the answers.
 pub(crate) fn ranges(rt: &(impl Input + Print + Alloc<A = Global>)) -> io::Result<()> {
-    if let Ok(table) = RangeTable::<8>::new(&BUCK) {
-        for line in rt.lines(rt.alloc()) {
-            let sum = looked_up(&table, line?.parse().unwrap_or(0));
-            println!(rt; "{sum}")?;
-        }
+    for line in rt.lines(rt.alloc()) {
+        let mut sum = String::new(rt.alloc());
+        write_sum(&mut sum, line?.as_str())?;
+        println!(rt; "{sum}")?;
     }
     Ok(())
+}
+
+/// Appends the sum over as many voltages as the number says.
+pub(crate) fn write_sum(line: &mut String, rounds: &str) -> Result<(), AllocError> {
+    match RangeTable::<8>::new(&BUCK) {
+        Ok(table) => {
+            let sum = looked_up(&table, rounds.parse().unwrap_or(0));
+            write!(line, "{sum}")
+        }
+        Err(_) => Ok(()),
+    }
 }
 
 /// The sum over `rounds` voltages of the selectors from above and from below and of the value of

@@ -1,28 +1,39 @@
 use crate::escapes::unescaped;
 use crate::found::{Asked, write_found};
+use crate::ranges::write_sum;
 use std::alloc::{AllocError, Global};
+
+/// What a row is about: what is found in a text, or the sum over so many voltages.
+#[derive(Clone, Copy)]
+enum Wanted<'a> {
+    Found(Asked<'a>),
+    Ranges,
+}
 
 /// A row of the table, as it stands there.
 #[derive(Clone, Copy)]
 struct Row<'a> {
-    asked: Asked<'a>,
+    asked: Wanted<'a>,
     text: &'a str,
     expected: &'a str,
 }
 
 /// A row is `tokens TEXT -> EXPECTED`, `tree TEXT -> EXPECTED`, `count TEXT -> EXPECTED`,
-/// `prefixes TEXT -> EXPECTED` or `values TEXT -> PROPERTY -> EXPECTED`.
+/// `walk TEXT -> EXPECTED`, `prefixes TEXT -> EXPECTED`, `values TEXT -> PROPERTY -> EXPECTED` or
+/// `ranges ROUNDS -> SUM`.
 fn read(line: &str) -> Option<Row<'_>> {
     let (word, rest) = line.split_once(' ')?;
     let (text, rest) = rest.split_once(" -> ")?;
     let (asked, expected) = match word {
-        "tokens" => (Asked::Tokens, rest),
-        "tree" => (Asked::Tree, rest),
-        "count" => (Asked::Count, rest),
-        "prefixes" => (Asked::Prefixes, rest),
+        "tokens" => (Wanted::Found(Asked::Tokens), rest),
+        "tree" => (Wanted::Found(Asked::Tree), rest),
+        "count" => (Wanted::Found(Asked::Count), rest),
+        "walk" => (Wanted::Found(Asked::Walk), rest),
+        "prefixes" => (Wanted::Found(Asked::Prefixes), rest),
+        "ranges" => (Wanted::Ranges, rest),
         "values" => {
             let (property, expected) = rest.split_once(" -> ")?;
-            (Asked::Values(property), expected)
+            (Wanted::Found(Asked::Values(property)), expected)
         }
         _ => return None,
     };
@@ -48,8 +59,13 @@ pub(crate) fn differing(alloc: Global, line: &str) -> Result<Option<String>, All
 
 /// Appends what is found, and answers whether it is what the row expects.
 fn write_row(alloc: Global, found: &mut String, row: &Row<'_>) -> Result<bool, AllocError> {
-    let text = unescaped(alloc, row.text)?;
-    write_found(alloc, found, row.asked, text.as_slice())?;
+    match row.asked {
+        Wanted::Found(asked) => {
+            let text = unescaped(alloc, row.text)?;
+            write_found(alloc, found, asked, text.as_slice())?;
+        }
+        Wanted::Ranges => write_sum(found, row.text)?,
+    }
     let expected = unescaped(alloc, row.expected)?;
     Ok(found.as_str().trim_end().as_bytes() == expected.as_slice())
 }

@@ -1,62 +1,141 @@
--- What is kept while steps are read, and what has been read by it.
-use Rattle.std.specs.Prelude.{◌≡◌, ℕ, ◌<◌, ◌≤◌, List, [], ◌∷◌, Bool, false, Option, Some, None, length, map, reverse, slice_index_or, nat_eq, not, fold, if◌then◌else◌}
-use Rattle.std.specs.Option.{option_eq}
-use Rattle.std.specs.Map.{lookup}
-use Rattle.ordered_map.specs.Entries.{insert_entry}
-use Rattle.dts_tree.specs.declared.setting.Setting.{Setting}
-use Rattle.dts_tree.specs.declared.setting.Setting.TheVariants.{Opens, Sets}
-use Rattle.dts_tree.specs.declared.reader.Reader.{Reader}
-use Rattle.dts_tree.specs.Reading.{Reading}
+-- A reader of tokens, as it is kept.
+use Rattle.std.specs.Prelude.{◌≡◌, ◌≢◌, ℕ, ◌+◌, ◌*◌, ◌<◌, ◌≤◌, List, [], ◌∷◌, Result, Ok, Err, map, length, drop, reverse, slice_range}
+use Rattle.std.specs.List.{AllByRecursion}
+use Rattle.dts_lex.specs.declared.token.Token.{Token}
+use Rattle.dts_tree.specs.declared.fault.TreeFault.{TreeFault}
+use Rattle.dts_tree.specs.declared.fault.TreeFault.TheVariants.{Memory}
+use Rattle.dts_tree.specs.declared.piece.Piece.{Piece}
+use Rattle.dts_tree.specs.declared.piece.Place.{Place}
+use Rattle.dts_tree.specs.declared.reading.reader.Reader.{Reader}
+use Rattle.dts_tree.specs.declared.reading.spot.Spot.{Spot}
+use Rattle.dts_tree.specs.declared.reading.spot.Spot.TheVariants as spot
+use Rattle.dts_tree.specs.declared.reading.symbol.Symbol.{Symbol}
+use Rattle.dts_tree.specs.declared.reading.symbol.Symbol.TheVariants as symbol
+use Rattle.dts_tree.specs.declared.store.Store.{Store}
+use Rattle.dts_tree.specs.declared.store.Opened.{Opened}
+use Rattle.dts_tree.specs.Lexeme.{unescaped}
+use Rattle.dts_tree.specs.Setting.{Label}
+use Rattle.dts_tree.specs.Value.{part_by}
+use Rattle.dts_tree.specs.Outline.{fault_of}
+use Rattle.dts_tree.specs.Inside.Pieces.{parts_of, label_at}
+use Rattle.dts_tree.specs.Inside.Stored.{content_of, labels_kept}
+use Rattle.dts_tree.specs.Inside.View.{View}
+use Rattle.dts_tree.specs.Inside.View as view
 
--- all of the numbers are below n
-abbrev pub AllBelow : ℕ → List ℕ → Type 0
-AllBelow n [] = Unit {0}
-AllBelow n (x ∷ xs) = (x < n) × AllBelow n xs
+-- the bytes of a word
+abbrev pub name_in : List ℕ → Token → List ℕ
+name_in text t = slice_range text t.start t.end
 
-abbrev pub node_of : Setting ℕ ℕ → ℕ
-node_of (Opens node at) = node
-node_of (Sets node name from to) = node
+abbrev pub spot_of : List ℕ → Spot → view.Spot
+spot_of text spot.Start = view.Start
+spot_of text spot.Versioned = view.Versioned
+spot_of text spot.Inside = view.Inside
+spot_of text (spot.Slashed at) = view.Slashed at
+spot_of text spot.Added = view.Added
+spot_of text spot.Closed = view.Closed
+spot_of text (spot.Worded t) = view.Worded (name_in text t) t.start
+spot_of text spot.Behind = view.Behind
+spot_of text (spot.Named t) = view.Named (name_in text t) t.start
+spot_of text (spot.Valued t) = view.Valued (name_in text t)
+spot_of text (spot.InCells t) = view.InCells (name_in text t)
+spot_of text (spot.InBytes t) = view.InBytes (name_in text t)
+spot_of text (spot.Parted t) = view.Parted (name_in text t)
 
--- the path of a node in place of its number
-abbrev pub path_at : List (List ℕ) → ℕ → List ℕ
-path_at paths k = slice_index_or paths k []
+-- a label that waits for its node
+abbrev pub label_in : List ℕ → Token → Label
+label_in text t = record { name = name_in text t; at = t.start }
 
-abbrev pub with_path_at : List (List ℕ) → Setting ℕ ℕ → Setting (List ℕ) ℕ
-with_path_at paths (Opens node at) = Opens (path_at paths node) at
-with_path_at paths (Sets node name from to) = Sets (path_at paths node) name from to
-
-abbrev pub label_at : List (List ℕ) → ℕ × ℕ → ℕ × List ℕ
-label_at paths e = (e.0, path_at paths e.1)
-
--- what has been read
-abbrev pub reading : Reader → Reading ℕ
-reading r = record {
-  paths = r.nodes;
-  bodies = map (path_at r.nodes) (reverse r.bodies.items);
-  labels = map (label_at r.nodes) r.labels;
-  waiting = r.waiting.items;
-  settings = map (with_path_at r.nodes) r.settings.items;
+-- what the reader of a text keeps
+abbrev pub view_by : List ℕ → Spot → List ℕ → List Token → ℕ → List (Piece Place) → Store → View
+view_by text at bodies waiting from pieces store = record {
+  spot = spot_of text at;
+  bodies = reverse bodies;
+  waiting = map (label_in text) waiting;
+  parts = map (part_by (label_at text)) (parts_of (drop from pieces));
+  refs = labels_kept text pieces;
+  content = content_of text pieces store;
 }
 
--- the numbers are those of nodes, of which none is too deep
-pub record Standing (r : Reader) : Type 0 where
-  pub some : 0 < length r.nodes
-  pub root : path_at r.nodes 0 ≡ []
-  pub shallow : (k : ℕ) → length (path_at r.nodes k) ≤ 32
-  pub bodies : AllBelow (length r.nodes) (reverse r.bodies.items)
-  pub labels : AllBelow (length r.nodes) (map (λ e. e.1) r.labels)
-  pub settings : AllBelow (length r.nodes) (map node_of r.settings.items)
+abbrev pub view_of : List ℕ → Reader → View
+view_of text r = view_by text r.spot r.bodies.items r.waiting.items r.from r.pieces.items r.store
 
--- a label stands at another node than this
-abbrev pub stands_off : Option ℕ → Option ℕ → Bool
-stands_off at None = false
-stands_off at (Some other) = not (option_eq nat_eq (Some other) at)
+-- the bytes that a token says, by its class and its bytes
+abbrev pub said_word : Symbol → List ℕ → List ℕ
+said_word symbol.Text inner = unescaped inner
+said_word symbol.Word inner = inner
+said_word symbol.Ref inner = inner
+said_word _ inner = []
 
--- the place of the first of these labels that stands at another node than this
-abbrev pub elsewhere_by_number : List (ℕ × ℕ) → Option ℕ → List (ℕ × ℕ) → Option ℕ
-elsewhere_by_number labels at [] = None
-elsewhere_by_number labels at (w ∷ ws) = if stands_off at (lookup (nat_eq w.0) labels) then Some w.1 else elsewhere_by_number labels at ws
+-- what a reader makes of a token by its bytes, its place, the fault that it is where it can't come, and its
+-- class
+abbrev pub Taking : Type 0
+Taking = View → List ℕ → ℕ → TreeFault → Symbol → Result View TreeFault
 
--- the labels, and these at the node
-abbrev pub with_labels_at : List (ℕ × ℕ) → ℕ → List (ℕ × ℕ) → List (ℕ × ℕ)
-with_labels_at labels node waiting = fold (λ ls w. insert_entry nat_eq ls w.0 node) labels waiting
+-- what a reader should come to by a token with these bytes
+abbrev pub asked : List ℕ → List ℕ → Token → Symbol → Reader → Taking → Result View TreeFault
+asked text inner token s r take = take (view_of text r) (said_word s inner) token.start (fault_of text token) s
+
+-- a token lies in the text
+abbrev pub IsIn : List ℕ → Token → Type 0
+IsIn text t = (t.start < t.end) × (t.end ≤ length text)
+
+-- the bytes of a word or of a reference of this class
+abbrev pub IsInner : List ℕ → List ℕ → Token → Symbol → Type 0
+IsInner text inner t s = (s ≡ symbol.Word → inner ≡ name_in text t) × (s ≡ symbol.Ref → inner ≡ slice_range text (t.start + 1) t.end)
+
+-- each parent is numbered before its child, where the first of these children is number k + 1
+abbrev pub EarlierFrom : ℕ → List ((ℕ × List ℕ) × Opened) → Type 0
+EarlierFrom k [] = Unit {0}
+EarlierFrom k (e ∷ es) = (e.0.0 ≤ k) × EarlierFrom (k + 1) es
+
+-- numbers are those of nodes that are there, and pieces those that are there
+pub record Held (first : ℕ) (pieces : List (Piece Place)) (open_ : List ℕ) (store : Store) : Type 0 where
+  pub from : first ≤ length pieces
+  pub bodies : AllByRecursion (λ k. k ≤ length store.children) open_
+  pub earlier : EarlierFrom 0 store.children
+  pub labels : AllByRecursion (λ e. e.1 ≤ length store.children) store.labels
+  pub owners : AllByRecursion (λ e. e.0.0 ≤ length store.children) store.properties
+  pub ranges : AllByRecursion (λ e. e.1.to ≤ length pieces) store.properties
+
+abbrev pub Kept : Reader → Type 0
+Kept r = Held r.from r.pieces.items r.bodies.items r.store
+
+-- a name that is read and not yet put
+abbrev pub pending : Spot → ℕ
+pending spot.Start = 0
+pending spot.Versioned = 0
+pending spot.Inside = 0
+pending (spot.Slashed at) = 0
+pending spot.Added = 0
+pending spot.Closed = 0
+pending (spot.Worded t) = 1
+pending spot.Behind = 0
+pending (spot.Named t) = 1
+pending (spot.Valued t) = 1
+pending (spot.InCells t) = 1
+pending (spot.InBytes t) = 1
+pending (spot.Parted t) = 1
+
+-- each name that was put took two tokens of so many
+abbrev pub Counted : ℕ → Reader → Type 0
+Counted n r = (2 * length r.store.children + pending r.spot ≤ n) × (2 * length r.store.properties + pending r.spot ≤ n)
+
+-- the reader has come to what was expected, by one token
+pub record Went (expected : Result View TreeFault) (text : List ℕ) (old new : Reader) : Type 0 where
+  pub view : expected ≡ Ok (view_of text new)
+  pub kept : Kept new
+  pub counted : (n : ℕ) → Counted n old → Counted (n + 1) new
+
+-- a reader may take a token of this class with these bytes
+pub record Ready (text bytes : List ℕ) (t : Token) (s : Symbol) (r : Reader) : Type 0 where
+  pub kept : Kept r
+  pub token : IsIn text t
+  pub inner : IsInner text bytes t s
+
+-- it took the token as it should
+abbrev pub Took : List ℕ → List ℕ → Token → Symbol → Reader → Reader → Taking → Type 0
+Took text inner t s old new take = Went (asked text inner t s old take) text old new
+
+-- it failed as it should
+abbrev pub Failed : List ℕ → List ℕ → Token → Symbol → Reader → Taking → TreeFault → Type 0
+Failed text inner t s old take fault = fault ≢ Memory → asked text inner t s old take ≡ Err fault

@@ -1,39 +1,44 @@
-use Rattle.std.proofs.Common.{arith}
-use Rattle.std.proofs.lemmas.Result.{IfOk-weaker, IfOk-from_err}
-use Rattle.dts_tree.proofs.ExitLemmas.{passed_on, unless_memory}
-use Rattle.dts_tree.specs.Inside.Kept.{reading_in}
+use Rattle.std.proofs.Common.{◌∙◌, ◌*◌, ◌≤◌, Ok, Err, sym, length, arith}
+use Rattle.std.proofs.lemmas.Result.{IfOk-weaker, IfErr-weaker, err_from_is_err_and}
+use Rattle.dts_lex.specs.Lex.{SpansRise}
+use Rattle.dts_tree.specs.Inside.Reader.{view_of}
+use Rattle.dts_tree.proofs.LawLemmas.{outcome_wrong, outcome_early, outcome_whole}
+use Rattle.dts_tree.proofs.TakeLemmas.{sound, spans_length}
 use Rattle.dts_tree.proofs.parser.parse.Goals as goal
 
-pub reading_of-requires-clause-spans : goal.reading_of-requires-clause-spans
-reading_of-requires-clause-spans c = c.spans_rise.ensures c.args.text.now c.args.tokens.now c.requires.lexed
+pub read-requires-clause-spans : goal.read-requires-clause-spans
+read-requires-clause-spans c = c.spans_rise.ensures c.args.text.now c.args.tokens.now c.requires.lexed
 
-pub of_reader-requires : goal.of_reader-requires
-of_reader-requires c =
-    rw (c.in_ok-own_text.ensures, c.in_ok-own_tokens.ensures) (record {
-      bytes = λ i. omega (arith, c.type_inv.text i);
-      standing = c.in_ok-read.ensures.standing;
-      firsts = c.in_ok-read.ensures.firsts;
-      named = c.in_ok-read.ensures.named;
-      few = c.in_ok-read.ensures.few;
-      labelled = c.in_ok-read.ensures.labelled;
-    })
+pub returns-in_err-reader-clause-fault : goal.returns-in_err-reader-clause-fault
+returns-in_err-reader-clause-fault c =
+    let p = err_from_is_err_and c.from_residual.result c.from_residual.ensures.1 in
+    rw (p.1, p.2) (λ ne. outcome_wrong c.args.text.now c.args.tokens.now c.in_err-reader.field-0.0 (c.in_err-reader.ensures.fault ne))
 
+pub returns-then-not-may_end-clause-fault : goal.returns-then-not-may_end-clause-fault
+returns-then-not-may_end-clause-fault c = λ ne.
+    let text = c.args.text.now in
+    outcome_early text c.args.tokens.now (view_of text c.in_ok-reader.reader) c.in_ok-reader.ensures.ok (sym (c.may_end.ensures text) ∙ c.if-not-may_end.true)
+
+pub tree_of-requires : goal.tree_of-requires
+tree_of-requires c =
+    let r = c.in_ok-reader.reader in
+    let text = c.args.text.now in
+    let rises : SpansRise 0 (length text) c.args.tokens.now = c.spans_rise.ensures text c.args.tokens.now c.requires.lexed in
+    let long = spans_length 0 (length text) c.args.tokens.now rises in
+    let counted = c.in_ok-reader.ensures.counted in
+    let children : 2 * length r.store.children ≤ 4294967295 = omega (arith, counted.0, long, c.requires.short) in
+    let properties : 2 * length r.store.properties ≤ 4294967295 = omega (arith, counted.1, long, c.requires.short) in
+    rw (c.into_set-store.ensures.store, c.into_set-store.ensures.pieces) (record { sound = sound r.from r.pieces.items r.bodies.items r.store c.in_ok-reader.ensures.kept children properties })
+
+-- what comes of what is kept is the outcome
 pub returns-clause-tree : goal.returns-clause-tree
 returns-clause-tree c =
-    let told = rw (c.in_ok-own_text.ensures, c.in_ok-own_tokens.ensures) at c.of_reader.ensures.tree in
-    IfOk-weaker c.of_reader.result _ _ (λ tree is. (reading_in c.args.text.now c.args.tokens.now c.in_ok-read.read.reader, c.in_ok-read.ensures.ok, is)) told
+    let text = c.args.text.now in
+    let kept = rw (c.into_set-store.ensures.store, c.into_set-store.ensures.pieces) at c.tree_of.ensures.tree in
+    IfOk-weaker c.tree_of.result _ _ (λ tree is. outcome_whole text c.args.tokens.now (view_of text c.in_ok-reader.reader) c.in_ok-reader.ensures.ok (sym (c.may_end.ensures text) ∙ c.if-not-may_end.false) (Ok tree) is) kept
 
-pub returns-in_err-own_text : goal.returns-in_err-own_text
-returns-in_err-own_text c =
-    let exit = c.from_residual.ensures in
-    record { tree = IfOk-from_err _ _ exit.0; fault = unless_memory _ _ exit.1 }
-
-pub returns-in_err-own_tokens : goal.returns-in_err-own_tokens
-returns-in_err-own_tokens c =
-    let exit = c.from_residual-in_err-own_tokens.ensures in
-    record { tree = IfOk-from_err _ _ exit.0; fault = unless_memory _ _ exit.1 }
-
-pub returns-in_err-read : goal.returns-in_err-read
-returns-in_err-read c =
-    let exit = c.from_residual-in_err-read.ensures in
-    record { tree = IfOk-from_err _ _ exit.0; fault = passed_on _ _ c.in_err-read.field-0.0 exit.1 c.in_err-read.ensures.fault }
+pub returns-clause-fault : goal.returns-clause-fault
+returns-clause-fault c =
+    let text = c.args.text.now in
+    let kept = rw (c.into_set-store.ensures.store, c.into_set-store.ensures.pieces) at c.tree_of.ensures.fault in
+    IfErr-weaker c.tree_of.result _ _ (λ fault is ne. outcome_whole text c.args.tokens.now (view_of text c.in_ok-reader.reader) c.in_ok-reader.ensures.ok (sym (c.may_end.ensures text) ∙ c.if-not-may_end.false) (Err fault) (is ne)) kept
