@@ -95,7 +95,7 @@ module _ {R S T : Type 0} (l : R → S) (r : S → T) (f : R → T) (same : (x :
 
 -- ---- the tree
 
-module _ (text : List ℕ) (pieces : List (Piece Place)) (store : Store) (sound : Sound store pieces) (order ranks : List ℕ) (h : IsLayout (0 ∷ map (λ e. e.0.0) store.children) order ranks) where
+module _ (text : List ℕ) (pieces : List (Piece Place)) (store : Store) (sound : Sound store) (order ranks : List ℕ) (h : IsLayout (0 ∷ map (λ e. e.0.0) store.children) order ranks) where
   abbrev owners : List ℕ
   owners = map (λ e. e.0.0) store.children
 

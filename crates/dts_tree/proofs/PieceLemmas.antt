@@ -43,15 +43,6 @@ module _ {R S : Type 0} (f : R → S) where
   with_piece-by ps (piece.Byte b) = with_byte-by ps b
   with_piece-by ps (piece.Whole r) = map-append (part_by f) ps (Whole r ∷ [])
 
-  pub reference-by : (p : Piece R) → map f (reference_in p) ≡ reference_in (piece_by f p)
-  reference-by piece.Cells = refl
-  reference-by (piece.Number n) = refl
-  reference-by (piece.Node r) = refl
-  reference-by piece.Text = refl
-  reference-by piece.Bytes = refl
-  reference-by (piece.Byte b) = refl
-  reference-by (piece.Whole r) = refl
-
 pub parts_of-more : {R : Type 0} (ps qs : List (Piece R)) → parts_of (ps ++ qs) ≡ fold with_piece (parts_of ps) qs
 unfolding parts_of
 parts_of-more ps qs = fold-append with_piece [] ps qs
@@ -81,9 +72,6 @@ take-more : {X : Type 0} (n : ℕ) (xs ys : List X) → n ≤ length xs → take
 take-more zero xs ys h = refl
 take-more (suc n) [] ys h = absurd (omega arith)
 take-more (suc n) (x ∷ xs) ys h = ap (λ zs. x ∷ zs) (take-more n xs ys (omega arith))
-
-drop-past : {X : Type 0} (n : ℕ) (xs : List X) → length xs ≤ n → drop n xs ≡ []
-drop-past n xs h = drop_all n xs h
 
 -- what lies before a place that is there stays
 pub range-more : {X : Type 0} (i j : ℕ) (xs ys : List X) → j ≤ length xs → slice_range (xs ++ ys) i j ≡ slice_range xs i j

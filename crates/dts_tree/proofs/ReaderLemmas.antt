@@ -216,18 +216,6 @@ pub depth-some : (es : List ((ℕ × List ℕ) × Opened)) (node : ℕ) → 1 �
 depth-some es zero h = absurd (omega arith)
 depth-some es (suc k) h = let e : k ≡ suc k - 1 = omega arith in ap (λ (n : ℕ). slice_index_or (map (λ e. e.1.depth) es) n 0) e
 
--- ---- labels that wait
-
-module _ (text : List ℕ) (labels : List ((ℕ × List ℕ) × ℕ)) (node : Option ℕ) (waiting : List Token) (i : ℕ) (d : Token) (inside : i < length waiting) where
-  elsewhere-next : elsewhere labels node (map (label_in text) (drop i waiting)) ≡ cond (stands_off node (node_of labels (name_in text (get_or waiting i d)))) (Some (get_or waiting i d).start) (elsewhere labels node (map (label_in text) (drop (i + 1) waiting)))
-  elsewhere-next = ap (λ ws. elsewhere labels node (map (label_in text) ws)) (drop_more waiting i d inside)
-
-  pub elsewhere-here : stands_off node (node_of labels (name_in text (get_or waiting i d))) ≡ true → elsewhere labels node (map (label_in text) (drop i waiting)) ≡ Some (get_or waiting i d).start
-  elsewhere-here off = elsewhere-next ∙ ap (λ b. cond b (Some (get_or waiting i d).start) (elsewhere labels node (map (label_in text) (drop (i + 1) waiting)))) off
-
-  pub elsewhere-later : stands_off node (node_of labels (name_in text (get_or waiting i d))) ≡ false → elsewhere labels node (map (label_in text) (drop i waiting)) ≡ elsewhere labels node (map (label_in text) (drop (i + 1) waiting))
-  elsewhere-later off = elsewhere-next ∙ ap (λ b. cond b (Some (get_or waiting i d).start) (elsewhere labels node (map (label_in text) (drop (i + 1) waiting)))) off
-
 -- ---- a child that is opened
 
 pub labels-all : (m node : ℕ) (ls : List Label) (labels : List ((ℕ × List ℕ) × ℕ)) → node ≤ m → AllByRecursion (λ e. e.1 ≤ m) labels → AllByRecursion (λ e. e.1 ≤ m) (with_labels labels node ls)

@@ -11,16 +11,8 @@ use Rattle.dts_tree.specs.Setting.{Label, Path, Root, Labelled, Child, Setting, 
 use Rattle.dts_tree.specs.Content.{Content, nothing, number_at, node_of, child_of, or_root, depth_of, elsewhere, known, opened, with_child, with_setting, with_settings, unless_fault}
 use Rattle.dts_tree.specs.Inside.Sane.{Apart, Sane}
 use Rattle.dts_tree.proofs.ContentLemmas.{same_name-self}
-use Rattle.dts_tree.proofs.SettingLemmas.{same_name-true}
+use Rattle.dts_tree.proofs.SettingLemmas.{turned}
 use Rattle.dts_tree.proofs.ReaderLemmas.{all-keep, all-insert, all-weaker, lookup-all, length-keep, place-inside, earlier-keep, labels-all}
-
--- keys that differ, the other way round
-pub turned : (a b : ℕ × List ℕ) → same_name b a ≡ false → same_name a b ≡ false
-turned a b differ =
-    elim (same_name a b) as (λ (x : Bool). same_name a b ≡ x → x ≡ false) [
-      | true ↦ λ is. (let e : true ≡ false = sym (same_name-self a) ∙ ap (λ k. same_name k a) (same_name-true a b is) ∙ differ in cc)
-      | false ↦ λ is. refl
-    ] refl
 
 module _ {V : Type 0} where
   apart-keep : (es : List ((ℕ × List ℕ) × V)) (key : ℕ × List ℕ) (v : V) → Apart es → Apart (keep_entry same_name es key v)

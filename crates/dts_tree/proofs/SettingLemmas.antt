@@ -26,6 +26,14 @@ same_name-true a b is =
     let name : a.1 ≡ b.1 = (bytes_eq-Decides a.1 b.1).0 h.1 in
     ap (λ (n : ℕ). (n, a.1)) owner ∙ ap (λ (w : List ℕ). (b.0, w)) name
 
+-- keys that differ, the other way round
+pub turned : (a b : ℕ × List ℕ) → same_name b a ≡ false → same_name a b ≡ false
+turned a b differ =
+    elim (same_name a b) as (λ (x : Bool). same_name a b ≡ x → x ≡ false) [
+      | true ↦ λ is. (let e : true ≡ false = sym (same_name-self a) ∙ ap (λ k. same_name k a) (same_name-true a b is) ∙ differ in cc)
+      | false ↦ λ is. refl
+    ] refl
+
 module _ {V : Type 0} where
   lookup-insert : (es : List ((ℕ × List ℕ) × V)) (key : ℕ × List ℕ) (v : V) → lookup (same_name key) (insert_entry same_name es key v) ≡ Some v
   lookup-insert [] key v = ap (λ (b : Bool). cond b (Some v) None) (same_name-self key)
@@ -36,9 +44,7 @@ module _ {V : Type 0} where
       ] refl
 
   lookup-other : (es : List ((ℕ × List ℕ) × V)) (key other : ℕ × List ℕ) (v : V) → same_name other key ≡ false → lookup (same_name key) (insert_entry same_name es other v) ≡ lookup (same_name key) es
-  lookup-other [] key other v differs = ap (λ (b : Bool). cond b (Some v) None) (turned key other differs) where
-    turned : (a b : ℕ × List ℕ) → same_name b a ≡ false → same_name a b ≡ false
-    turned a b differ = elim (same_name a b) as (λ (x : Bool). same_name a b ≡ x → x ≡ false) [ true ↦ λ is. (let e : true ≡ false = sym (same_name-self a) ∙ ap (λ k. same_name k a) (same_name-true a b is) ∙ differ in cc) | false ↦ λ is. refl ] refl
+  lookup-other [] key other v differs = ap (λ (b : Bool). cond b (Some v) None) (turned key other differs)
   lookup-other (e ∷ es) key other v differs =
       elim (same_name other e.0) as (λ (b : Bool). same_name other e.0 ≡ b → lookup (same_name key) (cond b ((e.0, v) ∷ es) (e ∷ insert_entry same_name es other v)) ≡ lookup (same_name key) (e ∷ es)) [
         | true ↦ λ is. (

@@ -94,17 +94,14 @@ module _ (text : List ℕ) (t : Token) (s : Symbol) (inner : List ℕ) (is : s �
 
 -- ---- all tokens
 
-pub spans_at : (from to : ℕ) (ts : List Token) (i : ℕ) (d : Token) → SpansRise from to ts → i < length ts → ((get_or ts i d).start < (get_or ts i d).end) × ((get_or ts i d).end ≤ to)
-spans_at from to [] i d h inside = absurd (omega arith)
-spans_at from to (t ∷ ts) zero d h inside = let rest = spans_count t.end to ts h.2 in (h.1, omega (arith, rest)) where
-  spans_count : (from to : ℕ) (ts : List Token) → SpansRise from to ts → from + length ts ≤ to
-  spans_count from to [] h = omega arith
-  spans_count from to (t ∷ ts) h = let rest = spans_count t.end to ts h.2 in omega (arith, rest, h.0, h.1)
-spans_at from to (t ∷ ts) (suc i) d h inside = spans_at t.end to ts i d h.2 (omega arith)
-
 pub spans_length : (from to : ℕ) (ts : List Token) → SpansRise from to ts → from + length ts ≤ to
 spans_length from to [] h = omega arith
 spans_length from to (t ∷ ts) h = let rest = spans_length t.end to ts h.2 in omega (arith, rest, h.0, h.1)
+
+pub spans_at : (from to : ℕ) (ts : List Token) (i : ℕ) (d : Token) → SpansRise from to ts → i < length ts → ((get_or ts i d).start < (get_or ts i d).end) × ((get_or ts i d).end ≤ to)
+spans_at from to [] i d h inside = absurd (omega arith)
+spans_at from to (t ∷ ts) zero d h inside = let rest = spans_length t.end to ts h.2 in (h.1, omega (arith, rest))
+spans_at from to (t ∷ ts) (suc i) d h inside = spans_at t.end to ts i d h.2 (omega arith)
 
 module _ (text : List ℕ) (tokens : List Token) (i : ℕ) (d : Token) (v : View) (inside : i < length tokens) where
   next : take_all text v (drop i tokens) ≡ unless_fault (λ w. take_all text w (drop (i + 1) tokens)) (take_token text v (get_or tokens i d))
@@ -128,17 +125,16 @@ all-at P f [] k h inside = absurd (omega arith)
 all-at P f (x ∷ xs) zero h inside = h.0
 all-at P f (x ∷ xs) (suc k) h inside = all-at P f xs k h.1 (omega arith)
 
-earlier-at : (n : ℕ) (es : List ((ℕ × List ℕ) × Opened)) (k : ℕ) → EarlierFrom n es → k < length es → slice_index_or (map (λ e. e.0.0) es) k 0 ≤ n + k
+pub earlier-at : (n : ℕ) (es : List ((ℕ × List ℕ) × Opened)) (k : ℕ) → EarlierFrom n es → k < length es → slice_index_or (map (λ e. e.0.0) es) k 0 ≤ n + k
 earlier-at n [] k h inside = absurd (omega arith)
 earlier-at n (e ∷ es) zero h inside = omega (arith, h.0)
 earlier-at n (e ∷ es) (suc k) h inside = let r = earlier-at (n + 1) es k h.1 (omega arith) in omega (arith, r)
 
-pub sound : (first : ℕ) (ps : List (Piece Place)) (open_ : List ℕ) (store : Store) → Held first ps open_ store → 2 * length store.children ≤ 4294967295 → 2 * length store.properties ≤ 4294967295 → Sound store ps
+pub sound : (first : ℕ) (ps : List (Piece Place)) (open_ : List ℕ) (store : Store) → Held first ps open_ store → 2 * length store.children ≤ 4294967295 → 2 * length store.properties ≤ 4294967295 → Sound store
 sound first ps open_ store h children properties = record {
   few = omega (arith, children);
   earlier = λ k inside. (let r = earlier-at 0 store.children k h.earlier inside in omega (arith, r));
   labels = λ k inside. all-at (λ n. n ≤ length store.children) (λ e. e.1) store.labels k h.labels inside;
   owners = λ k inside. all-at (λ n. n ≤ length store.children) (λ e. e.0.0) store.properties k h.owners inside;
   few_properties = omega (arith, properties);
-  ranges = λ k inside. all-at (λ n. n ≤ length ps) (λ e. e.1.to) store.properties k h.ranges inside;
 }

@@ -21,6 +21,7 @@ use Rattle.dts_tree.specs.Inside.Reader.{EarlierFrom}
 use Rattle.dts_tree.specs.Inside.Sane.{Apart, Sane}
 use Rattle.dts_tree.proofs.ContentLemmas.{same_name-self}
 use Rattle.dts_tree.proofs.SaneLemmas.{sane}
+use Rattle.dts_tree.proofs.TakeLemmas.{earlier-at}
 use Rattle.dts_tree.proofs.LayoutLemmas.{layout-length, layout-inside, layout-seen, layout-led}
 use Rattle.dts_tree.proofs.TreeOrderLemmas.{Seen, order-first}
 
@@ -159,11 +160,6 @@ past (x ∷ xs) zero d h = absurd (omega arith)
 past (x ∷ xs) (suc k) d h = past xs k d (omega arith)
 
 -- ---- the tree of a content
-
-earlier-at : (n : ℕ) (es : List ((ℕ × List ℕ) × Opened)) (k : ℕ) → EarlierFrom n es → k < length es → get_or (map (λ e. e.0.0) es) k 0 ≤ n + k
-earlier-at n [] k h inside = absurd (omega arith)
-earlier-at n (e ∷ es) zero h inside = omega (arith, h.0)
-earlier-at n (e ∷ es) (suc k) h inside = let r = earlier-at (n + 1) es k h.1 (omega arith) in omega (arith, r)
 
 module _ (c : Content) (h : Sane c) where
   abbrev owners : List ℕ

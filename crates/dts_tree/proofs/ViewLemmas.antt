@@ -307,9 +307,6 @@ module _ (c : Content) (refs : List Label) (at : ℕ) (wrong : TreeFault) where
     abbrev waiting_view : Spot → View
     waiting_view s = record { spot = s; bodies = number_at c path ∷ map (number_at c) outer; waiting = labels; parts = []; refs = refs; content = c }
 
-    abbrev brace_told : Option ℕ → Option Move
-    brace_told o = Some (state.Between (Child path word ∷ path ∷ outer), Some (Opens path word word_at labels))
-
     abbrev Brace : Result Content TreeFault → Type 0
     Brace got =
         (unless_fault (λ next. Ok (view_opened (waiting_view (spot.Named word word_at)) word next)) got ≡ unless_fault (λ next. Ok (view (state.Between (Child path word ∷ path ∷ outer)) next (refs ++ []))) got)

@@ -8,7 +8,7 @@ use Rattle.dts_tree.specs.declared.value.Cell.TheVariants as cell
 use Rattle.dts_tree.specs.Value.{Part, Cells, Text, Bytes, Whole, Property}
 use Rattle.dts_tree.specs.Tree.{Node}
 
--- what is below number nodes; node numbers from there on stand for a node without name and properties
+-- a number that no node has stands for this node, which has no name and no properties
 abbrev pub bare : Node
 bare = record { name = []; parent = None; at = 0; properties = [] }
 

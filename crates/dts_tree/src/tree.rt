@@ -180,7 +180,7 @@ pub(crate) fn tree_of(
     store: Store,
     pieces: Vec<Piece<Place>>,
 ) -> Result<Tree, TreeFault>
-    requires sound { Sound store pieces.items }
+    requires sound { Sound store }
     ensures tree { IfOk result (λ tree. outcome_kept text.now pieces.items store ≡ Ok tree) }
     ensures fault { IfErr result (λ fault. fault ≢ TreeFault.Memory → outcome_kept text.now pieces.items store ≡ Err fault) }
 {

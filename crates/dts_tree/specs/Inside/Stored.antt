@@ -32,11 +32,10 @@ abbrev pub labels_kept : List ℕ → List (Piece Place) → List Label
 labels_kept text pieces = map (label_at text) (flat_map reference_in pieces)
 
 -- parents are numbered before their children, labels and properties stand at nodes that are there, and
--- values are made of pieces that are there
-pub record Sound (store : Store) (pieces : List (Piece Place)) : Type 0 where
+-- there are no more of them than 32 bits number
+pub record Sound (store : Store) : Type 0 where
   pub few : length store.children < 4294967295
   pub earlier : (k : ℕ) → k < length store.children → slice_index_or (map (λ e. e.0.0) store.children) k 0 ≤ k
   pub labels : (k : ℕ) → k < length store.labels → slice_index_or (map (λ e. e.1) store.labels) k 0 ≤ length store.children
   pub owners : (k : ℕ) → k < length store.properties → slice_index_or (map (λ e. e.0.0) store.properties) k 0 ≤ length store.children
   pub few_properties : length store.properties < 4294967295
-  pub ranges : (k : ℕ) → k < length store.properties → (slice_index_or (map (λ e. e.1.to) store.properties) k 0) ≤ length pieces

@@ -141,7 +141,7 @@ pub(crate) fn nodes_of(
     store: Store,
     pieces: Vec<Piece<Place>>,
 ) -> Result<Nodes, TreeFault>
-    requires sound { Sound store pieces.items }
+    requires sound { Sound store }
     ensures tree { IfOk result (λ nodes. outcome_kept text.now pieces.items store ≡ Ok nodes) }
     ensures fault { IfErr result (λ fault. fault ≢ TreeFault.Memory → outcome_kept text.now pieces.items store ≡ Err fault) }
 {

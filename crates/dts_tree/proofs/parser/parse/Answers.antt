@@ -28,7 +28,7 @@ tree_of-requires c =
     let counted = c.in_ok-reader.ensures.counted in
     let children : 2 * length r.store.children ≤ 4294967295 = omega (arith, counted.0, long, c.requires.short) in
     let properties : 2 * length r.store.properties ≤ 4294967295 = omega (arith, counted.1, long, c.requires.short) in
-    rw (c.into_set-store.ensures.store, c.into_set-store.ensures.pieces) (record { sound = sound r.from r.pieces.items r.bodies.items r.store c.in_ok-reader.ensures.kept children properties })
+    rw c.into_set-store.ensures.store (record { sound = sound r.from r.pieces.items r.bodies.items r.store c.in_ok-reader.ensures.kept children properties })
 
 -- what comes of what is kept is the outcome
 pub returns-clause-tree : goal.returns-clause-tree
