@@ -1,4 +1,11 @@
 pub mod FailsBy
 pub mod WorkedGraphs
 pub mod WorkedOrders
+pub mod Members
+pub mod WorkedSets
+pub mod WorkedClosed
 pub mod OneOrder
+pub mod Growth
+pub mod SetLaws
+pub mod OrderExists
+pub mod LoopsHaveNoOrder

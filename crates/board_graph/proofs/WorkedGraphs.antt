@@ -70,7 +70,7 @@ abbrev pub graph_of : List (Option ℕ) → List ℕ → Graph
 graph_of supply group = record { supply = supply; group = group; link = [] }
 
 -- rail 0 supplies rail 1, which supplies rail 2; each has a group of its own
-abbrev chain : Graph
+abbrev pub chain : Graph
 chain = graph_of (None ∷ Some 0 ∷ Some 1 ∷ []) (0 ∷ 1 ∷ 2 ∷ [])
 
 supplies_next : Supplies chain 1 2

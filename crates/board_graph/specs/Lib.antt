@@ -1,3 +1,4 @@
 pub mod Ways
 pub mod Graph
 pub mod Order
+pub mod Sets

@@ -1,9 +1,10 @@
 -- What the searches for faults say of the list of ranges.
-use Rattle.std.proofs.Common.{◌≡◌, ℕ, zero, suc, ◌+◌, ◌-◌, ◌<◌, ◌≤◌, Bool, true, false, List, [], ◌∷◌, Option, None, Some, length, get_or, take, drop, refl, sym, ◌∙◌, arith, add-one}
+use Rattle.std.proofs.Common.{◌≡◌, ℕ, ◌+◌, ◌-◌, ◌<◌, ◌≤◌, Bool, true, false, List, [], ◌∷◌, Option, None, Some, length, get_or, take, drop, refl, sym, ◌∙◌, arith, add-one}
 use Rattle.std.proofs.Math.Seq.{drop-cons}
 use Rattle.std.proofs.lemmas.Bool.{ltb-false, leb-false}
 use Rattle.std.proofs.lemmas.List.{take_rest}
 use Rattle.std.proofs.lemmas.List.Elements.{All-nil, All-cons}
+use Rattle.std.proofs.lemmas.List.Kept.{AllPairs-cons}
 use Rattle.std.proofs.lemmas.Iterator.Adapters.{position_from-zero}
 use Rattle.std.specs.List.{All, AllPairs, position, position_from}
 use Rattle.linear_range.specs.declared.linear_range.LinearRange.{LinearRange}
@@ -49,13 +50,6 @@ pub none_from_position : {X : Type 0} (p : X → Bool) (xs : List X)
     → None ≡ position p xs → All (λ x. p x ≡ false) xs
 none_from_position p xs h = none_from_position_from p 0 xs (sym (h ∙ position_from-zero p xs))
 
-pub all_pairs_cons : {X : Type 0} (R : X → X → Type 0) (x : X) (xs : List X)
-    → All (R x) xs → AllPairs R xs → AllPairs R (x ∷ xs)
-all_pairs_cons R x xs first rest zero zero d h k = absurd (omega arith)
-all_pairs_cons R x xs first rest zero (suc j) d h k = first j d (omega arith)
-all_pairs_cons R x xs first rest (suc i) zero d h k = absurd (omega arith)
-all_pairs_cons R x xs first rest (suc i) (suc j) d h k = rest i j d (omega arith) (omega arith)
-
 abbrev AreApart : LinearRange → LinearRange → Type 0
 AreApart r s = share_selector r s ≡ false
 
@@ -68,7 +62,7 @@ apart_from_first_overlap i (r ∷ rs) h =
     by_first : (o : Option ℕ) → position (share_selector r) rs ≡ o
         → (None ≡ first_overlap (i + 1) rs → AllPairs AreApart rs) → AllPairs AreApart (r ∷ rs)
     by_first None e rest =
-        all_pairs_cons AreApart r rs (none_from_position (share_selector r) rs (sym e)) (rest (rw e at h))
+        AllPairs-cons AreApart r rs (none_from_position (share_selector r) rs (sym e)) (rest (rw e at h))
     by_first (Some k) e rest = let f = rw e at h in cc
 
 -- a list of ranges without a fault is a table

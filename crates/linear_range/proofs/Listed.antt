@@ -1,7 +1,8 @@
 -- The written-out pairs of a table, and what the picks are among them.
 use Rattle.std.proofs.Common.{◌≡◌, ℕ, zero, suc, ◌+◌, ◌^◌, ◌<◌, ◌≤◌, List, [], ◌∷◌, Option, None, Some, refl, subst, ◌⊎◌, inl, inr, arith}
 use Rattle.std.proofs.lemmas.Bool.{cases_eq}
-use Rattle.std.proofs.lemmas.List.Elements.{All-nil, All-cons, All-head, All-tail, All-weaker, All-contains}
+use Rattle.std.proofs.lemmas.List.Elements.{All-nil, All-cons, All-head, All-tail, All-weaker, All-contains, Contains-append_right}
+use Rattle.std.proofs.lemmas.List.Kept.{AllPairs-cons}
 use Rattle.std.specs.List.{All, AllPairs, Contains}
 use Rattle.linear_range.specs.declared.linear_range.LinearRange.{LinearRange}
 use Rattle.linear_range.specs.LinearRange.{IsSound, IsFitting}
@@ -11,7 +12,6 @@ use Rattle.linear_range.specs.Laws.{ListsValues, SelectorsRise, IsBounded, Picks
 use Rattle.linear_range.proofs.Picks.{InSegment, pairs_between}
 use Rattle.linear_range.proofs.Tables.{HasValue, in_segment, value_of-below, member_from_value_in}
 use Rattle.linear_range.proofs.Singles.{member_high}
-use Rattle.linear_range.proofs.Faults.{all_pairs_cons}
 
 module _ (value : ℕ → Option ℕ) where
   abbrev IsIn : ℕ → ℕ → ℕ × ℕ → Type 0
@@ -33,9 +33,6 @@ module _ (value : ℕ → Option ℕ) where
       by_value (Some v) e later =
           rw e (All-cons (IsIn a (suc n)) (a, v) (pairs_between value (a + 1) n) (omega arith, omega arith, e) later)
 
-  contains_cons : (y x : ℕ × ℕ) (xs : List (ℕ × ℕ)) → Contains xs x → Contains (y ∷ xs) x
-  contains_cons y x xs c = (suc c.0, omega arith, c.2)
-
   -- and each of them is listed
   segment_contains : (a n sel uv : ℕ) → InSegment value a n sel uv → Contains (pairs_between value a n) (sel, uv)
   segment_contains a zero sel uv m = absurd (omega arith)
@@ -45,7 +42,7 @@ module _ (value : ℕ → Option ℕ) where
       by_value : (o : Option ℕ) → value a ≡ o → Contains (pairs_between value (a + 1) n) (sel, uv)
           → Contains (pairs_between value a (suc n)) (sel, uv)
       by_value None e later = rw e later
-      by_value (Some v) e later = rw e (contains_cons (a, v) (sel, uv) (pairs_between value (a + 1) n) later)
+      by_value (Some v) e later = rw e (Contains-append_right ((a, v) ∷ []) (pairs_between value (a + 1) n) (sel, uv) later)
 
       by_place : (sel ≡ a) ⊎ (sel ≡ a → ⊥)
           → ((sel ≡ a → ⊥) → Contains (pairs_between value (a + 1) n) (sel, uv))
@@ -67,7 +64,7 @@ module _ (value : ℕ → Option ℕ) where
           → AllPairs RisesTo (pairs_between value a (suc n))
       by_value None e later = rw e later
       by_value (Some v) e later =
-          rw e (all_pairs_cons RisesTo (a, v) (pairs_between value (a + 1) n)
+          rw e (AllPairs-cons RisesTo (a, v) (pairs_between value (a + 1) n)
           (All-weaker (IsIn (a + 1) n) (RisesTo (a, v)) (λ p m. omega (arith, m.0))
           (pairs_between value (a + 1) n) (segment_all (a + 1) n))
           later)

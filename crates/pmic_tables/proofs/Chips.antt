@@ -46,13 +46,13 @@ io4_fills = record { width = 5; some = omega arith; within = omega arith; ones =
 usb4_fills : FillsMask usb4 0x07
 usb4_fills = record { width = 3; some = omega arith; within = omega arith; ones = refl; has = listed_has (entries_of usb4) 7 refl }
 
-core8_fills : FillsMask core8 0x7f
+pub core8_fills : FillsMask core8 0x7f
 core8_fills = record { width = 7; some = omega arith; within = omega arith; ones = refl; has = one_has 500000 10000 127 }
 
 memory8_fills : FillsMask memory8 0x3f
 memory8_fills = record { width = 6; some = omega arith; within = omega arith; ones = refl; has = one_has 800000 25000 63 }
 
-linear8_fills : FillsMask linear8 0x1f
+pub linear8_fills : FillsMask linear8 0x1f
 linear8_fills = record { width = 5; some = omega arith; within = omega arith; ones = refl; has = one_has 900000 100000 31 }
 
 core12_fills : FillsMask core12 0x7f

@@ -4,16 +4,15 @@ use Rattle.chip_regs.specs.Clash.{ClashesAt}
 use Rattle.chip_regs.proofs.Clashes.{clash-at, apart-read, clash_within, first-clash, none-clash}
 use Rattle.chip_regs.proofs.clash.disjoint.Goals as goal
 
-found : (c : goal.Then-shares_bit) → ClashesAt c.args.fields.now c.loop-first.first c.loop-second.second
-found c = clash-at c.args.fields.now c.loop-first.first c.loop-second.second (omega arith) c.loop-second-test.true (c.shares_bit.ensures.0 c.if-shares_bit.true)
-
 pub returns-then-shares_bit-clause-clash : goal.returns-then-shares_bit-clause-clash
-returns-then-shares_bit-clause-clash c = first-clash c.args.fields.now _ c.loop-first.invariant c.loop-second.invariant (found c)
+returns-then-shares_bit-clause-clash c =
+    first-clash c.args.fields.now _ c.loop-first.invariant c.loop-second.invariant
+    (clash-at c.args.fields.now c.loop-first.first c.loop-second.second (omega arith) (omega arith) (c.shares_bit.ensures.0 c.if-shares_bit.true))
 
 pub loop-second-preserved : goal.loop-second-preserved
 loop-second-preserved c =
     below_more _ _ c.loop-second.invariant
-    (apart-read c.args.fields.now c.loop-first.first c.loop-second.second c.loop-first-test.true c.loop-second-test.true
+    (apart-read c.args.fields.now c.loop-first.first c.loop-second.second c.loop-first-test.true (omega arith)
     (λ shared. let holds : IsTrue c.shares_bit.result = c.shares_bit.ensures.1 shared in cc))
 
 pub loop-first-preserved : goal.loop-first-preserved

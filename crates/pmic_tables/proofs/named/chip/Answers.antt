@@ -2,8 +2,6 @@ use Rattle.std.proofs.Common.{◌≡◌, ℕ, List, Some, true, false, refl, sym
 use Rattle.std.specs.Prelude.{codes}
 use Rattle.std.specs.Str.{bytes_eq}
 use Rattle.pmic_tables.specs.Named.{sheet_named}
-use Rattle.pmic_tables.specs.Pm4.{pm4}
-use Rattle.pmic_tables.specs.Pm8.{pm8}
 use Rattle.pmic_tables.specs.Pm12.{pm12}
 use Rattle.pmic_tables.proofs.Chips.{pm4_sound, pm8_sound, pm12_sound, pm4_apart, pm8_apart, pm12_apart}
 use Rattle.pmic_tables.proofs.named.chip.Goals as goal
@@ -26,37 +24,11 @@ returns-in_ok-describe-3-clause-sound c = pm12_sound c.args.number c.in_ok-descr
 pub returns-in_ok-describe-3-clause-apart : goal.returns-in_ok-describe-3-clause-apart
 returns-in_ok-describe-3-clause-apart c = pm12_apart c.args.number c.in_ok-describe-3.field-0 c.in_ok-describe-3.ensures
 
-first-sheet : (name : List ℕ) → bytes_eq name (codes "example,pm4") ≡ true → sheet_named name ≡ Some pm4
-first-sheet name is = rw is refl
-
-second-sheet : (name : List ℕ) → bytes_eq name (codes "example,pm4") ≡ false → bytes_eq name (codes "example,pm8") ≡ true → sheet_named name ≡ Some pm8
-second-sheet name not_first is = rw (not_first, is) refl
-
 -- the third name, which isn't one of the others
 third-sheet :
     (name : List ℕ) → bytes_eq name (codes "example,pm4") ≡ false → bytes_eq name (codes "example,pm8") ≡ false → bytes_eq name (codes "example,pm12") ≡ true
     → sheet_named name ≡ Some pm12
 third-sheet name not_first not_second is = rw (not_first, not_second, is) refl
-
-pub returns-in_ok-describe-clause-none : goal.returns-in_ok-describe-clause-none
-returns-in_ok-describe-clause-none c =
-    let is = rw c.as_slice.ensures at (sym c.eq.ensures ∙ c.if-eq.true) in
-    rw (first-sheet c.args.compatible.now is) (λ none. none, λ none. none)
-
-pub returns-in_ok-describe-clause-described : goal.returns-in_ok-describe-clause-described
-returns-in_ok-describe-clause-described c =
-    let is = rw c.as_slice.ensures at (sym c.eq.ensures ∙ c.if-eq.true) in
-    rw (first-sheet c.args.compatible.now is) c.in_ok-describe.ensures
-
-second : (c : goal.In_ok-describe-2) → sheet_named c.args.compatible.now ≡ Some pm8
-second c =
-    second-sheet c.args.compatible.now (rw c.as_slice.ensures at (sym c.eq.ensures ∙ c.if-eq.false)) (rw c.as_slice-else-eq.ensures at (sym c.eq-else-eq.ensures ∙ c.if-eq-2.true))
-
-pub returns-in_ok-describe-2-clause-none : goal.returns-in_ok-describe-2-clause-none
-returns-in_ok-describe-2-clause-none c = rw (second c) (λ none. none, λ none. none)
-
-pub returns-in_ok-describe-2-clause-described : goal.returns-in_ok-describe-2-clause-described
-returns-in_ok-describe-2-clause-described c = rw (second c) c.in_ok-describe-2.ensures
 
 third : (c : goal.In_ok-describe-3) → sheet_named c.args.compatible.now ≡ Some pm12
 third c =

@@ -3,6 +3,9 @@ use Rattle.std.specs.Option.{option_map}
 use Rattle.linear_range.proofs.Singles.{steps_within, high_above, high_below, high_inside, value_at_high, flat_last, flat_greatest}
 use Rattle.linear_range.proofs.linear_range.LinearRange.selector_high.Goals as goal
 
+pub returns-clause-rounded_up : goal.returns-clause-rounded_up
+returns-clause-rounded_up c = λ _ _ _. ap (λ steps. Some (c.args.self.now.min_sel + steps)) c.div_ceil-steps.ensures
+
 some_step : (n : ℕ) → (n ≡ 0 → ⊥) → 0 < n
 some_step n some = omega arith
 
@@ -33,9 +36,6 @@ returns-then-self-eq0-clause-least_value c =
     let last : c.args.uv ≤ c.args.self.now.min = omega (arith, flat_greatest c.args.self.now c.requires c.args.uv flat) in
     flat_last c.args.self.now c.requires c.args.uv flat
     ∙ ap (option_map (λ p. p.1)) (high_below c.args.self.now c.requires c.args.uv last)
-
-pub returns-clause-rounded_up : goal.returns-clause-rounded_up
-returns-clause-rounded_up c = λ _ _ _. ap (λ steps. Some (c.args.self.now.min_sel + steps)) c.div_ceil-steps.ensures
 
 pub returns-clause-least_value : goal.returns-clause-least_value
 returns-clause-least_value c = rw c.div_ceil-steps.ensures
