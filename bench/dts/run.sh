@@ -42,7 +42,7 @@ if ! command -v dtc >/dev/null; then
     echo "dtc is skipped: it is not there (apt-get install device-tree-compiler)"
 fi
 printf '%-12s %-10s %8s %8s %8s %8s\n' text program 0.25 1 4 '4 over 1'
-for kind in ordinary siblings properties scattered labels reopened added deep names cells phandles text hexadecimal parts references; do
+for kind in ordinary siblings properties scattered letters labels reopened added deep bushy names cells phandles text hexadecimal parts references; do
     for bytes in 262144 1048576 4194304; do
         awk -v kind=$kind -v bytes=$bytes -f "$here/texts.awk" >"$work/$bytes.dts"
     done

@@ -59,6 +59,18 @@ function scattered(    n, k, count, words, other) {
     put("};\n")
 }
 
+# As many properties as fit, with names of one letter or digit, all of them at each node.
+function letters(    n, k, name) {
+    name = "0123456789abcdefghijklmnopqrstuvwxyzABCDEFGHIJKLMNOPQRSTUVWXYZ"
+    put("/{")
+    for (n = 0; written < bytes; n++) {
+        put("a" word(n) "{")
+        for (k = 1; k <= length(name); k++) put(substr(name, k, 1) ";")
+        put("};")
+    }
+    put("};\n")
+}
+
 # As many labels as fit, with a reference to each.
 function labels(    n, count) {
     count = int(bytes / 21)
@@ -89,6 +101,21 @@ function deep(    n, k) {
         for (k = 0; k < 32; k++) put("};")
     }
     put("};\n")
+}
+
+# As many nodes as that, ten to a node, with names of one letter.
+function bushy() {
+    put("/{")
+    branch(6)
+    put("};\n")
+}
+
+function branch(levels,    k) {
+    for (k = 1; k <= 10 && written < bytes; k++) {
+        put(substr("abcdefghij", k, 1) "{")
+        if (levels > 1) branch(levels - 1)
+        put("};")
+    }
 }
 
 # Long names that differ at their ends alone.
@@ -151,10 +178,12 @@ BEGIN {
     else if (kind == "siblings") siblings()
     else if (kind == "properties") properties()
     else if (kind == "scattered") scattered()
+    else if (kind == "letters") letters()
     else if (kind == "labels") labels()
     else if (kind == "reopened") reopened()
     else if (kind == "added") added()
     else if (kind == "deep") deep()
+    else if (kind == "bushy") bushy()
     else if (kind == "names") names()
     else if (kind == "cells") cells()
     else if (kind == "phandles") phandles()

@@ -14,7 +14,7 @@ use mathlib.Core.List.{map-map}
 use Rattle.name_map.specs.NameEntries.{same_name}
 use Rattle.dts_tree.specs.declared.store.Opened.{Opened}
 use Rattle.dts_tree.specs.declared.store.Span.{Span}
-use Rattle.dts_tree.specs.declared.store.Store.{Store}
+use Rattle.dts_tree.specs.declared.store.Settled.{Settled}
 use Rattle.dts_tree.specs.declared.piece.Piece.{Piece}
 use Rattle.dts_tree.specs.declared.tree.nodes.Nodes.TheInside.{Inside}
 use Rattle.dts_tree.specs.Value.{Part, Property}
@@ -140,7 +140,7 @@ all-slice P i j xs h = all-take P (j - i) (drop i xs) (all-drop P i xs h)
 -- ---- the nodes
 
 module _ (t : Inside) (h : Kept t.store t.pieces.items t.layout.order.items t.layout.ranks.items t.listing.places.items t.listing.starts.items) (nodes : List Node) (is : nodes_kept t.store t.pieces.items t.layout.order.items ≡ nodes) where
-  abbrev store : Store
+  abbrev store : Settled
   store = t.store
 
   abbrev pieces : List (Piece ℕ)

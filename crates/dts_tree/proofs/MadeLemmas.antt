@@ -8,6 +8,7 @@ use Rattle.name_map.specs.NameEntries.{same_name}
 use Rattle.dts_tree.specs.declared.value.Cell.{Cell}
 use Rattle.dts_tree.specs.declared.value.Cell.TheVariants as cell
 use Rattle.dts_tree.specs.declared.store.Span.{Span}
+use Rattle.dts_tree.specs.declared.store.Settled.{Settled}
 use Rattle.dts_tree.specs.declared.store.Store.{Store}
 use Rattle.dts_tree.specs.declared.piece.Piece.{Piece}
 use Rattle.dts_tree.specs.declared.piece.Piece.TheVariants as piece
@@ -23,7 +24,7 @@ use Rattle.dts_tree.specs.Inside.Layout.{IsLayout}
 use Rattle.dts_tree.specs.Inside.Made.{outcome_kept}
 use Rattle.dts_tree.specs.Inside.Numbered.{first_unknown, number_of}
 use Rattle.dts_tree.specs.Inside.Pieces.{with_cell, with_byte, with_piece, parts_of, piece_by, label_at}
-use Rattle.dts_tree.specs.Inside.Stored.{value_in, content_of, labels_kept, Sound}
+use Rattle.dts_tree.specs.Inside.Stored.{value_in, store_of, content_of, labels_kept, Sound}
 use Rattle.dts_tree.proofs.LayoutLemmas.{layout-seen}
 use Rattle.dts_tree.proofs.MapLemmas.{lookup-at}
 
@@ -95,7 +96,10 @@ module _ {R S T : Type 0} (l : R → S) (r : S → T) (f : R → T) (same : (x :
 
 -- ---- the tree
 
-module _ (text : List ℕ) (pieces : List (Piece Place)) (store : Store) (sound : Sound store) (order ranks : List ℕ) (h : IsLayout (0 ∷ map (λ e. e.0.0) store.children) order ranks) where
+module _ (text : List ℕ) (pieces : List (Piece Place)) (settled : Settled) (labels : List ((ℕ × List ℕ) × ℕ)) (sound : Sound (store_of settled labels)) (order ranks : List ℕ) (h : IsLayout (0 ∷ map (λ e. e.0.0) settled.children) order ranks) where
+  abbrev store : Store
+  store = store_of settled labels
+
   abbrev owners : List ℕ
   owners = map (λ e. e.0.0) store.children
 
@@ -159,7 +163,7 @@ module _ (text : List ℕ) (pieces : List (Piece Place)) (store : Store) (sound 
         | false ↦ rest
       ]
 
-  node-same : (k : ℕ) → node_kept store kept order k ≡ node_in content order k
+  node-same : (k : ℕ) → node_kept settled kept order k ≡ node_in content order k
   node-same zero = ap {A = List (Property ℕ)} (λ ps. record { name = []; parent = None; at = option_map_or (λ at. at) store.root_at 0; properties = ps }) (properties-same 0 store.properties)
   node-same (suc k) = ap {A = List (Property ℕ)} (λ ps. record {
     name = get_or (map (λ e. e.0.1) store.children) k [];
@@ -168,12 +172,12 @@ module _ (text : List ℕ) (pieces : List (Piece Place)) (store : Store) (sound 
     properties = ps;
   }) (properties-same (suc k) store.properties)
 
-  nodes-same : (ks : List ℕ) → map (node_kept store kept order) ks ≡ map (node_in content order) ks
+  nodes-same : (ks : List ℕ) → map (node_kept settled kept order) ks ≡ map (node_in content order) ks
   nodes-same [] = refl
-  nodes-same (k ∷ ks) = ap (λ n. n ∷ map (node_kept store kept order) ks) (node-same k) ∙ ap (λ ns. node_in content order k ∷ ns) (nodes-same ks)
+  nodes-same (k ∷ ks) = ap (λ n. n ∷ map (node_kept settled kept order) ks) (node-same k) ∙ ap (λ ns. node_in content order k ∷ ns) (nodes-same ks)
 
   -- the tree that is kept
-  pub kept-tree : nodes_kept store kept order ≡ tree_of content
+  pub kept-tree : nodes_kept settled kept order ≡ tree_of content
   unfolding nodes_kept tree_of
   kept-tree = nodes-same order ∙ ap (λ ks. map (node_in content ks) ks) h.ordered
 

@@ -4,7 +4,7 @@ use Rattle.std.specs.Prelude.{slice_range}
 use Rattle.std.specs.List.{flat_map, AllByRecursion}
 use Rattle.std.proofs.Math.Logic.{⊎_elim}
 use Rattle.std.proofs.lemmas.Bool.{cases_lt}
-use Rattle.std.proofs.lemmas.List.{map-append, length-drop, drop_all, take_all}
+use Rattle.std.proofs.lemmas.List.{map-append, length-drop, take_all}
 use Rattle.std.proofs.lemmas.Grind.{flat_map-append, fold-append}
 use Rattle.dts_tree.specs.declared.value.Cell.{Cell}
 use Rattle.dts_tree.specs.declared.value.Cell.TheVariants as cell

@@ -1,12 +1,13 @@
 -- What a reader keeps while it goes on.
-use Rattle.std.proofs.Common.{Vec, Global, get_or, ◌≡◌, ℕ, zero, suc, ◌+◌, ◌-◌, ◌<◌, ◌≤◌, List, [], ◌∷◌, ◌++◌, Bool, true, false, cond, Option, Some, None, Result, Ok, Err, length, map, fold, drop, reverse, refl, sym, ap, ◌∙◌, subst, arith}
+use Rattle.std.proofs.Common.{Vec, Global, ◌≡◌, ℕ, zero, suc, ◌+◌, ◌-◌, ◌<◌, ◌≤◌, List, [], ◌∷◌, ◌++◌, Bool, true, false, cond, Option, Some, None, Result, Ok, Err, length, map, fold, drop, reverse, refl, sym, ap, ◌∙◌, subst, arith}
 use Rattle.std.specs.List.{AllByRecursion}
 use Rattle.std.specs.Prelude.{slice_range, slice_get, slice_index_or}
 use Rattle.std.specs.Map.{lookup}
 use Rattle.std.specs.Option.{option_map}
-use Rattle.std.proofs.lemmas.List.{length-append, drop_all, drop_more, reverse-append}
+use Rattle.std.proofs.lemmas.List.{length-append, length-take, drop_all, reverse-append}
 use Rattle.ordered_map.specs.Entries.{insert_entry, place_of}
-use Rattle.name_map.specs.NameEntries.{same_name, keep_entry}
+use Rattle.name_map.specs.NameEntries.{same_name, keep_entry, size_of}
+use Rattle.name_map.proofs.KeptLemmas.{size-length}
 use Rattle.dts_lex.specs.declared.token.Token.{Token}
 use Rattle.std.specs.Prelude.{nat_lt}
 use Rattle.std.proofs.lemmas.Bool.{lt-ltb}
@@ -17,18 +18,19 @@ use Rattle.dts_tree.specs.declared.piece.Place.{Place}
 use Rattle.dts_tree.specs.declared.reading.reader.Reader.{Reader}
 use Rattle.dts_tree.specs.declared.reading.spot.Spot.{Spot}
 use Rattle.dts_tree.specs.declared.reading.spot.Spot.TheVariants as spot
+use Rattle.dts_tree.specs.declared.reading.symbol.Symbol.{Symbol}
 use Rattle.dts_tree.specs.declared.store.Opened.{Opened}
 use Rattle.dts_tree.specs.declared.store.Span.{Span}
 use Rattle.dts_tree.specs.declared.store.Store.{Store}
 use Rattle.dts_tree.specs.Value.{Part, part_by}
 use Rattle.dts_tree.specs.Setting.{Label}
-use Rattle.dts_tree.specs.Content.{Content, nothing, node_of, depth_of, elsewhere, stands_off, child_of, or_root, with_labels, with_child, opened, unless_fault}
+use Rattle.dts_tree.specs.Content.{Content, nothing, depth_of, elsewhere, child_of, or_root, with_labels, with_child, opened, unless_fault}
 use Rattle.dts_tree.specs.Inside.Pieces.{with_piece, parts_of, piece_by, label_at}
 use Rattle.dts_tree.specs.Inside.Stored.{content_of, value_in, values_kept, labels_kept}
 use Rattle.dts_tree.specs.Inside.View.{View, view_set, view_start}
 use Rattle.dts_tree.specs.Inside.State.{label_of}
 use Rattle.dts_tree.specs.Inside.View as view
-use Rattle.dts_tree.specs.Inside.Reader.{spot_of, label_in, name_in, view_by, Held, Kept, EarlierFrom, Went, pending}
+use Rattle.dts_tree.specs.Inside.Reader.{spot_of, label_in, name_in, view_by, Held, EarlierFrom, Ready, Went, pending, waiting_size}
 use Rattle.dts_tree.proofs.PieceLemmas.{values-more, parts-more, labels-more, parts_of-none, range-rest}
 
 -- ---- entries that are put
@@ -69,12 +71,21 @@ module _ {V : Type 0} where
         | false ↦ (let r = length-keep es key v in (omega (arith, r.0), omega (arith, r.1)))
       ]
 
-  pub length-insert : (es : List ((ℕ × List ℕ) × V)) (key : ℕ × List ℕ) (v : V) → length (insert_entry same_name es key v) ≤ length es + 1
-  length-insert [] key v = omega arith
-  length-insert (e ∷ es) key v =
-      elim (same_name key e.0) as (λ (b : Bool). length (cond b ((e.0, v) ∷ es) (e ∷ insert_entry same_name es key v)) ≤ length (e ∷ es) + 1) [
+  -- an entry that is put makes its name's bytes and one more at most
+  pub size-keep : (es : List ((ℕ × List ℕ) × V)) (key : ℕ × List ℕ) (v : V) → size_of (keep_entry same_name es key v) ≤ size_of es + (length key.1 + 1)
+  size-keep [] key v = omega arith
+  size-keep (e ∷ es) key v =
+      elim (same_name key e.0) as (λ (b : Bool). size_of (cond b (e ∷ es) (e ∷ keep_entry same_name es key v)) ≤ size_of (e ∷ es) + (length key.1 + 1)) [
         | true ↦ omega arith
-        | false ↦ (let r = length-insert es key v in omega (arith, r))
+        | false ↦ omega (arith, size-keep es key v)
+      ]
+
+  pub size-insert : (es : List ((ℕ × List ℕ) × V)) (key : ℕ × List ℕ) (v : V) → size_of (insert_entry same_name es key v) ≤ size_of es + (length key.1 + 1)
+  size-insert [] key v = omega arith
+  size-insert (e ∷ es) key v =
+      elim (same_name key e.0) as (λ (b : Bool). size_of (cond b ((e.0, v) ∷ es) (e ∷ insert_entry same_name es key v)) ≤ size_of (e ∷ es) + (length key.1 + 1)) [
+        | true ↦ omega arith
+        | false ↦ omega (arith, size-insert es key v)
       ]
 
   pub place-inside : (p : ℕ × List ℕ → Bool) (es : List ((ℕ × List ℕ) × V)) (k : ℕ) → place_of p es ≡ Some k → k < length es
@@ -170,14 +181,14 @@ reverse-push ks k = reverse-append ks (k ∷ [])
 
 -- ---- what was read by one token
 
-module _ (text : List ℕ) (r : Reader) (kept : Kept r) where
+module _ (text inner : List ℕ) (t : Token) (s : Symbol) (r : Reader) (ready : Ready text inner t s r) where
   -- pieces were put
-  pub went_more : (v : Vec (Piece Place) Global) (qs : List (Piece Place)) (at : Spot) (parts : List (Part Label)) (refs : List Label) → v.items ≡ r.pieces.items ++ qs → parts ≡ fold with_piece (map (part_by (label_at text)) (parts_of (drop r.from r.pieces.items))) (map (piece_by (label_at text)) qs) → refs ≡ labels_kept text r.pieces.items ++ labels_kept text qs → pending r.spot ≡ 1 → pending at ≡ 1
-      → Went (Ok (record { spot = spot_of text at; bodies = reverse r.bodies.items; waiting = map (label_in text) r.waiting.items; parts = parts; refs = refs; content = content_of text r.pieces.items r.store })) text r (record { alloc = r.alloc; spot = at; bodies = r.bodies; waiting = r.waiting; from = r.from; pieces = v; store = r.store })
-  went_more v qs at parts refs is of_parts of_refs was now = record {
-    view = ap Ok (view_more r.from r.pieces.items r.bodies.items r.store kept text v.items qs at r.waiting.items parts refs is of_parts of_refs);
-    kept = held_more r.from r.pieces.items r.bodies.items r.store kept v.items qs is;
-    counted = λ n h. (omega (arith, h.0, was, now), omega (arith, h.1, was, now));
+  pub went_more : (v : Vec (Piece Place) Global) (qs : List (Piece Place)) (at : Spot) (parts : List (Part Label)) (refs : List Label) → v.items ≡ r.pieces.items ++ qs → parts ≡ fold with_piece (map (part_by (label_at text)) (parts_of (drop r.from r.pieces.items))) (map (piece_by (label_at text)) qs) → refs ≡ labels_kept text r.pieces.items ++ labels_kept text qs → (size : ℕ) → pending r.spot ≡ size → pending at ≡ size
+      → Went (Ok (record { spot = spot_of text at; bodies = reverse r.bodies.items; waiting = map (label_in text) r.waiting.items; parts = parts; refs = refs; content = content_of text r.pieces.items r.store })) text t.end (record { alloc = r.alloc; spot = at; bodies = r.bodies; waiting = r.waiting; from = r.from; pieces = v; store = r.store })
+  went_more v qs at parts refs is of_parts of_refs size was now = record {
+    view = ap Ok (view_more r.from r.pieces.items r.bodies.items r.store ready.kept text v.items qs at r.waiting.items parts refs is of_parts of_refs);
+    kept = held_more r.from r.pieces.items r.bodies.items r.store ready.kept v.items qs is;
+    counted = (omega (arith, ready.counted.0, ready.token.0, was, now), omega (arith, ready.counted.1, ready.token.0, was, now), omega (arith, ready.counted.2, ready.token.0, was, now));
   }
 
 -- a label by its place
@@ -290,8 +301,21 @@ module _ (text : List ℕ) (was : Spot) (bodies : List ℕ) (waiting : List Toke
       }
 
 -- a child's number lies within those that there may be
-pub child_fits : (es now : List ((ℕ × List ℕ) × Opened)) (key : ℕ × List ℕ) (v : Opened) (place : ℕ) → now ≡ keep_entry same_name es key v → place_of (same_name key) now ≡ Some place → length es < 4294967294 → place + 1 < 4294967296
-child_fits es now key v place is there few =
-    let long = length-keep es key v in
-    let inside = place-inside (same_name key) now place there in
-    omega (arith, long.1, inside, ap length is, few)
+pub child_fits : (es now : List ((ℕ × List ℕ) × Opened)) (key : ℕ × List ℕ) (v : Opened) (place : ℕ) → now ≡ keep_entry same_name es key v → place < length now → size_of es + length key.1 < 4294967295 → place + 1 < 4294967296
+child_fits es now key v place is inside room =
+    omega (arith, size-keep es key v, size-length now, inside, ap size_of is, room)
+
+-- ---- how many bytes names take
+
+pub name-length : (text : List ℕ) (t : Token) → length (name_in text t) ≤ t.end - t.start
+name-length text t = omega (arith, length-take (t.end - t.start) (drop t.start text))
+
+pub waiting-push : (ts : List Token) (t : Token) → waiting_size (ts ++ t ∷ []) ≡ waiting_size ts + (t.end - t.start + 1)
+waiting-push [] t = omega arith
+waiting-push (x ∷ ts) t = omega (arith, waiting-push ts t)
+
+pub labels-size : (text : List ℕ) (node : ℕ) (ts : List Token) (labels : List ((ℕ × List ℕ) × ℕ)) → size_of (with_labels labels node (map (label_in text) ts)) ≤ size_of labels + waiting_size ts
+labels-size text node [] labels = omega arith
+labels-size text node (t ∷ ts) labels =
+    let put = keep_entry same_name labels (0, name_in text t) node in
+    omega (arith, labels-size text node ts put, size-keep labels (0, name_in text t) node, name-length text t)

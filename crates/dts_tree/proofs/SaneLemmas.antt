@@ -1,5 +1,5 @@
 -- What holds of a content, whatever was set.
-use Rattle.std.proofs.Common.{◌≡◌, ℕ, ◌+◌, ◌≤◌, List, [], ◌∷◌, Bool, true, false, cond, Option, Some, None, Result, Ok, Err, length, refl, sym, ap, ◌∙◌, subst, arith}
+use Rattle.std.proofs.Common.{◌≡◌, ℕ, ◌+◌, ◌≤◌, List, [], ◌∷◌, Bool, true, false, cond, Option, Some, None, Result, Ok, Err, length, refl, subst, arith}
 use Rattle.std.specs.Prelude.{nat_lt}
 use Rattle.std.specs.Option.{option_map}
 use Rattle.ordered_map.specs.Entries.{insert_entry, place_of}
@@ -10,7 +10,6 @@ use Rattle.dts_tree.specs.declared.store.Opened.{Opened}
 use Rattle.dts_tree.specs.Setting.{Label, Path, Root, Labelled, Child, Setting, OpensRoot, Opens, Adds, Sets}
 use Rattle.dts_tree.specs.Content.{Content, nothing, number_at, node_of, child_of, or_root, depth_of, elsewhere, known, opened, with_child, with_setting, with_settings, unless_fault}
 use Rattle.dts_tree.specs.Inside.Sane.{Apart, Sane}
-use Rattle.dts_tree.proofs.ContentLemmas.{same_name-self}
 use Rattle.dts_tree.proofs.SettingLemmas.{turned}
 use Rattle.dts_tree.proofs.ReaderLemmas.{all-keep, all-insert, all-weaker, lookup-all, length-keep, place-inside, earlier-keep, labels-all}
 

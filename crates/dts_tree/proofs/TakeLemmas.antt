@@ -1,5 +1,5 @@
 -- What a reader makes of one token, and of all.
-use Rattle.std.proofs.Common.{get_or, ◌≡◌, ◌≢◌, ℕ, zero, suc, ◌+◌, ◌*◌, ◌<◌, ◌≤◌, List, [], ◌∷◌, Bool, true, false, cond, Result, Ok, Err, length, map, drop, refl, sym, ap, ◌∙◌, subst, arith}
+use Rattle.std.proofs.Common.{get_or, ◌≡◌, ◌≢◌, ℕ, zero, suc, ◌+◌, ◌<◌, ◌≤◌, List, [], ◌∷◌, Bool, true, false, cond, Result, Ok, Err, length, map, take, drop, refl, sym, ap, ◌∙◌, subst, arith}
 use Rattle.std.specs.Prelude.{slice_range, slice_index, slice_index_or}
 use Rattle.std.specs.List.{AllByRecursion}
 use Rattle.std.proofs.lemmas.List.{drop_more}
@@ -14,6 +14,7 @@ use Rattle.dts_tree.specs.declared.piece.Piece.{Piece}
 use Rattle.dts_tree.specs.declared.piece.Place.{Place}
 use Rattle.dts_tree.specs.declared.reading.reader.Reader.{Reader}
 use Rattle.dts_tree.specs.declared.reading.spot.Spot.{Spot}
+use Rattle.dts_tree.specs.declared.reading.spot.Spot.TheVariants as spot
 use Rattle.dts_tree.specs.declared.reading.symbol.Symbol.{Symbol}
 use Rattle.dts_tree.specs.declared.reading.symbol.Symbol.TheVariants as symbol
 use Rattle.dts_tree.specs.declared.store.Opened.{Opened}
@@ -23,8 +24,8 @@ use Rattle.dts_tree.specs.Outline.{fault_of}
 use Rattle.dts_tree.specs.Content.{unless_fault}
 use Rattle.dts_tree.specs.Inside.Inner.{inner_of, inner_by}
 use Rattle.dts_tree.specs.Inside.Stored.{Sound}
-use Rattle.dts_tree.specs.Inside.View.{View, symbol_of, bytes_said, take_at, take_token, take_all}
-use Rattle.dts_tree.specs.Inside.Reader.{IsInner, said_word, view_of, spot_of, Went, Held, EarlierFrom}
+use Rattle.dts_tree.specs.Inside.View.{View, symbol_of, bytes_said, is_inside, may_end, take_at, take_token, take_all}
+use Rattle.dts_tree.specs.Inside.Reader.{IsInner, said_word, view_of, spot_of, Went, Held, EarlierFrom, Counted, pending}
 
 -- a sign says no bytes
 record Mute (inner : List ℕ) (l : Lexeme) : Type 0 where
@@ -86,7 +87,7 @@ module _ (text : List ℕ) (t : Token) (s : Symbol) (inner : List ℕ) (is : s �
     expects : take_token text (view_of text r) t ≡ expected
     expects = token_is (view_of text r) ∙ ap (λ (x : Spot). take_at (view_of text r) (said_word s inner) t.start (fault_of text t) (spot_of text x) s) here ∙ takes
 
-    pub went_token : (new : Reader) → Went expected text r new → Went (take_token text (view_of text r) t) text r new
+    pub went_token : (new : Reader) → Went expected text t.end new → Went (take_token text (view_of text r) t) text t.end new
     went_token new went = record { view = expects ∙ went.view; kept = went.kept; counted = went.counted }
 
     pub fault_token : (fault : TreeFault) → (fault ≢ Memory → expected ≡ Err fault) → fault ≢ Memory → take_token text (view_of text r) t ≡ Err fault
@@ -94,13 +95,34 @@ module _ (text : List ℕ) (t : Token) (s : Symbol) (inner : List ℕ) (is : s �
 
 -- ---- all tokens
 
-pub spans_length : (from to : ℕ) (ts : List Token) → SpansRise from to ts → from + length ts ≤ to
-spans_length from to [] h = omega arith
-spans_length from to (t ∷ ts) h = let rest = spans_length t.end to ts h.2 in omega (arith, rest, h.0, h.1)
+-- where the last of some tokens ends
+abbrev pub reached : ℕ → List Token → ℕ
+reached from [] = from
+reached from (t ∷ ts) = reached t.end ts
+
+pub spans_reach : (from to : ℕ) (ts : List Token) (i : ℕ) → SpansRise from to ts → reached from (take i ts) ≤ to
+spans_reach from to [] i h = reach_none i h where
+  reach_none : (i : ℕ) → from ≤ to → reached from (take i []) ≤ to
+  reach_none zero h = h
+  reach_none (suc i) h = h
+spans_reach from to (t ∷ ts) zero h = let rest = spans_reach t.end to ts zero h.2 in omega (arith, h.0, h.1, rest)
+spans_reach from to (t ∷ ts) (suc i) h = spans_reach t.end to ts i h.2
+
+pub spans_start : (from to : ℕ) (ts : List Token) (i : ℕ) (d : Token) → SpansRise from to ts → i < length ts → reached from (take i ts) ≤ (get_or ts i d).start
+spans_start from to [] i d h inside = absurd (omega arith)
+spans_start from to (t ∷ ts) zero d h inside = h.0
+spans_start from to (t ∷ ts) (suc i) d h inside = spans_start t.end to ts i d h.2 (omega arith)
+
+pub spans_next : (from : ℕ) (ts : List Token) (i : ℕ) (d : Token) → i < length ts → reached from (take (i + 1) ts) ≡ (get_or ts i d).end
+spans_next from [] i d inside = absurd (omega arith)
+spans_next from (t ∷ ts) zero d inside = refl
+spans_next from (t ∷ ts) (suc i) d inside =
+    let e : suc i + 1 ≡ suc (i + 1) = omega arith in
+    ap (λ (n : ℕ). reached from (take n (t ∷ ts))) e ∙ spans_next t.end ts i d (omega arith)
 
 pub spans_at : (from to : ℕ) (ts : List Token) (i : ℕ) (d : Token) → SpansRise from to ts → i < length ts → ((get_or ts i d).start < (get_or ts i d).end) × ((get_or ts i d).end ≤ to)
 spans_at from to [] i d h inside = absurd (omega arith)
-spans_at from to (t ∷ ts) zero d h inside = let rest = spans_length t.end to ts h.2 in (h.1, omega (arith, rest))
+spans_at from to (t ∷ ts) zero d h inside = let rest = spans_reach t.end to ts 0 h.2 in (h.1, omega (arith, rest))
 spans_at from to (t ∷ ts) (suc i) d h inside = spans_at t.end to ts i d h.2 (omega arith)
 
 module _ (text : List ℕ) (tokens : List Token) (i : ℕ) (d : Token) (v : View) (inside : i < length tokens) where
@@ -118,6 +140,31 @@ pub all_end : (text : List ℕ) (v : View) → take_all text v [] ≡ Ok v
 unfolding take_all
 all_end text v = refl
 
+pub counted_on : (m n : ℕ) (r : Reader) → m ≤ n → Counted m r → Counted n r
+counted_on m n r on h = (omega (arith, h.0, on), omega (arith, h.1, on), omega (arith, h.2, on))
+
+-- a text that may end has begun
+pub begun : (text : List ℕ) (at : Spot) → is_inside (spot_of text at) ≡ true → 1 ≤ pending at
+begun text spot.Inside h = omega arith
+begun text spot.Start h = absurd (cc)
+begun text spot.Versioned h = absurd (cc)
+begun text (spot.Slashed at) h = absurd (cc)
+begun text spot.Added h = absurd (cc)
+begun text spot.Closed h = absurd (cc)
+begun text (spot.Worded t) h = absurd (cc)
+begun text spot.Behind h = absurd (cc)
+begun text (spot.Named t) h = absurd (cc)
+begun text (spot.Valued t) h = absurd (cc)
+begun text (spot.InCells t) h = absurd (cc)
+begun text (spot.InBytes t) h = absurd (cc)
+begun text (spot.Parted t) h = absurd (cc)
+
+pub may_begun : (text : List ℕ) (r : Reader) → may_end (view_of text r) ≡ true → 1 ≤ pending r.spot
+may_begun text r h = begun text r.spot (front (is_inside (spot_of text r.spot)) _ h) where
+  front : (a b : Bool) → cond a b false ≡ true → a ≡ true
+  front true b h = refl
+  front false b h = h
+
 -- ---- what is kept is sound
 
 all-at : {X : Type 0} (P : ℕ → Type 0) (f : X → ℕ) (xs : List X) (k : ℕ) → AllByRecursion (λ x. P (f x)) xs → k < length xs → P (slice_index_or (map f xs) k 0)
@@ -130,11 +177,11 @@ earlier-at n [] k h inside = absurd (omega arith)
 earlier-at n (e ∷ es) zero h inside = omega (arith, h.0)
 earlier-at n (e ∷ es) (suc k) h inside = let r = earlier-at (n + 1) es k h.1 (omega arith) in omega (arith, r)
 
-pub sound : (first : ℕ) (ps : List (Piece Place)) (open_ : List ℕ) (store : Store) → Held first ps open_ store → 2 * length store.children ≤ 4294967295 → 2 * length store.properties ≤ 4294967295 → Sound store
+pub sound : (first : ℕ) (ps : List (Piece Place)) (open_ : List ℕ) (store : Store) → Held first ps open_ store → length store.children < 4294967295 → length store.properties < 4294967295 → Sound store
 sound first ps open_ store h children properties = record {
-  few = omega (arith, children);
+  few = children;
   earlier = λ k inside. (let r = earlier-at 0 store.children k h.earlier inside in omega (arith, r));
   labels = λ k inside. all-at (λ n. n ≤ length store.children) (λ e. e.1) store.labels k h.labels inside;
   owners = λ k inside. all-at (λ n. n ≤ length store.children) (λ e. e.0.0) store.properties k h.owners inside;
-  few_properties = omega (arith, properties);
+  few_properties = properties;
 }

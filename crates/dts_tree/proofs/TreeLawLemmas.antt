@@ -17,7 +17,6 @@ use Rattle.dts_tree.specs.Tree.{Node, order_of, rank, node_in, properties_of, tr
 use Rattle.dts_tree.specs.Look.{bare, properties_at}
 use Rattle.dts_tree.specs.Laws.{node_at, IsTree, TreesAreTrees}
 use Rattle.dts_tree.specs.Inside.Layout.{IsLayout}
-use Rattle.dts_tree.specs.Inside.Reader.{EarlierFrom}
 use Rattle.dts_tree.specs.Inside.Sane.{Apart, Sane}
 use Rattle.dts_tree.proofs.ContentLemmas.{same_name-self}
 use Rattle.dts_tree.proofs.SaneLemmas.{sane}

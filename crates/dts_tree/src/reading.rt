@@ -19,7 +19,7 @@ pub(crate) fn read(alloc: Global, text: &[u8], tokens: &[Token]) -> Result<Reade
     requires spans { SpansRise 0 (length text.now) tokens.now }
     ensures ok { IfOk result (λ reader. take_all text.now view_start tokens.now ≡ Ok (view_of text.now reader)) }
     ensures kept { IfOk result (λ reader. Kept reader) }
-    ensures counted { IfOk result (λ reader. Counted (length tokens.now) reader) }
+    ensures counted { IfOk result (λ reader. Counted (length text.now) reader) }
     ensures fault { IfErr result (λ fault. fault ≢ TreeFault.Memory → take_all text.now view_start tokens.now ≡ Err fault) }
 {
     let mut reader = Reader::new(alloc);

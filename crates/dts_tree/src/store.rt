@@ -1,4 +1,4 @@
-use name_map::NameMap;
+use name_map::{NameList, NameMap};
 use std::alloc::Global;
 
 /// A node that was opened.
@@ -41,9 +41,28 @@ impl Drop for Store {
     }
 }
 
+/// What was set, when nothing more is set: no child is looked up by its name any more, and no label.
+pub(crate) struct Settled {
+    pub(crate) root_at: Option<u32>,
+    pub(crate) children: NameList<Opened>,
+    pub(crate) properties: NameMap<Span>,
+}
+
+impl Drop for Settled {
+    /// Ends all parts, so that an owner's code has one call for it.
+    fn drop(self) {
+        let Settled {
+            root_at: _,
+            children: _,
+            properties: _,
+        } = self;
+    }
+}
+
 impl Store {
     ghost use Rattle.std.specs.Prelude.{◌≡◌, ◌<◌, [], None, length};
     ghost use Rattle.dts_tree.specs.Content.{child_of, depth_of};
+    ghost use Rattle.dts_tree.specs.Inside.Stored.{store_of};
 
     /// The root alone. Takes no memory.
     pub(crate) fn new(alloc: Global) -> Store
@@ -66,7 +85,7 @@ impl Store {
         ensures { result ≡ child_of self.now.children parent name.now }
     {
         match self.children.place(parent, name) {
-            Some(place) => Some(place as u32 + 1),
+            Some(place) => Some(place + 1),
             None => None,
         }
     }
@@ -78,9 +97,28 @@ impl Store {
         if node == 0 {
             return 0;
         }
-        match self.children.value(node as usize - 1) {
+        match self.children.list().value(node as usize - 1) {
             Some(opened) => opened.depth,
             None => 0,
         }
+    }
+
+    /// What was set, and the labels.
+    pub(crate) fn settled(self) -> (Settled, NameMap<u32>)
+        ensures { store_of result.0 result.1 ≡ self }
+    {
+        let Store {
+            root_at,
+            children,
+            labels,
+            properties,
+        } = self;
+        let children = children.into_list();
+        let settled = Settled {
+            root_at,
+            children,
+            properties,
+        };
+        (settled, labels)
     }
 }

@@ -184,7 +184,8 @@ pub(crate) fn tree_of(
     ensures tree { IfOk result (λ tree. outcome_kept text.now pieces.items store ≡ Ok tree) }
     ensures fault { IfErr result (λ fault. fault ≢ TreeFault.Memory → outcome_kept text.now pieces.items store ≡ Err fault) }
 {
-    let nodes = nodes_of(alloc, text, store, pieces)?;
+    let (store, labels) = store.settled();
+    let nodes = nodes_of(alloc, text, store, labels, pieces)?;
     let phandles = phandles_of(alloc, &nodes)?;
     Ok(Tree { nodes, phandles })
 }

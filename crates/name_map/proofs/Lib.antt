@@ -1,5 +1,6 @@
+pub mod KeptLemmas
 pub mod KeyLemmas
-pub mod NamedLemmas
+pub mod ListedLemmas
 pub mod ShelfLemmas
 pub mod StateLemmas
 pub mod WorkedNames

@@ -1,9 +1,10 @@
 -- Names in one row of bytes.
 use Rattle.std.proofs.Common.{◌≡◌, ℕ, zero, suc, ◌+◌, ◌-◌, ◌<◌, ◌≤◌, List, [], ◌∷◌, ◌++◌, length, Result, Ok, Err, get_or, take, drop, refl, sym, ap, ◌∙◌, arith}
 use Rattle.std.proofs.Math.Seq.{drop-append_seam}
-use Rattle.std.proofs.lemmas.List.{drop-take, take_all, take_at, take-take, length-append, length-take-le, get_or_default}
+use Rattle.std.proofs.lemmas.List.{drop-take, take_all, take_at, take-take, length-append, length-take-le, length-drop, get_or_default}
 use Rattle.std.specs.List.{slice_range}
 use Rattle.std.specs.Prelude.{OnErr}
+use Rattle.name_map.specs.Inside.Listed.{bytes_in}
 use Rattle.name_map.specs.Inside.Shelved.{names_from, last_end, begin_of, Rises}
 
 pub on_err : {T E P : Type 0} (r : Result T E) → P → OnErr r P
@@ -111,3 +112,12 @@ pub end-last : (from : ℕ) (ends : List ℕ) (place : ℕ) → place < length e
 end-last from [] place inside rises = absurd (omega arith)
 end-last from (end ∷ ends) zero inside rises = rises-last end ends rises.1
 end-last from (end ∷ ends) (suc k) inside rises = end-last end ends k (omega (arith, inside)) rises.1
+
+-- how many bytes there are up to the end of the last name
+range-length : (bytes : List ℕ) (from end : ℕ) → end ≤ length bytes → length (slice_range bytes from end) ≡ end - from
+range-length bytes from end inside = length-take-le (end - from) (drop from bytes) (omega (arith, inside, length-drop from bytes))
+
+pub last-bytes : (from : ℕ) (ends bytes : List ℕ) → Rises from ends → last_end from ends ≤ length bytes → last_end from ends ≡ from + bytes_in (names_from from ends bytes)
+last-bytes from [] bytes rises inside = omega arith
+last-bytes from (end ∷ ends) bytes rises inside =
+    omega (arith, rises.0, last-bytes end ends bytes rises.1 inside, range-length bytes from end (omega (arith, inside, rises-last end ends rises.1)))

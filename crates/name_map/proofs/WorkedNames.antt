@@ -1,8 +1,9 @@
 -- Entries worked out by hand: two owners, and names of which one begins the other.
-use Rattle.std.proofs.Common.{◌≡◌, ℕ, zero, suc, List, [], ◌∷◌, true, false, Some, None, refl, ap, arith}
+use Rattle.std.proofs.Common.{◌≡◌, ℕ, List, [], ◌∷◌, true, false, Some, None, refl}
 use Rattle.std.specs.Map.{lookup}
-use Rattle.name_map.specs.NameEntries.{same_name, insert_entry, keep_entry, place_of, IsOnce}
-use Rattle.name_map.specs.Inside.States.{piece_of, piece_at, more_pieces}
+use Rattle.name_map.specs.NameEntries.{same_name, insert_entry, keep_entry, size_of, place_of}
+use Rattle.name_map.specs.Inside.States.{piece_of, piece_at, pieces}
+use Rattle.name_map.specs.Inside.Keys.{numbered}
 
 abbrev Entries : Type 0
 Entries = List ((ℕ × List ℕ) × ℕ)
@@ -62,24 +63,18 @@ kept_there = refl
 kept_last : keep_entry same_name three (2, ab) 40 ≡ ((1, a), 10) ∷ ((2, a), 20) ∷ ((1, ab), 30) ∷ ((2, ab), 40) ∷ []
 kept_last = refl
 
--- each of the three keys comes once
-once : IsOnce same_name three
-once zero key is = ap (λ k. place_of (same_name k) three) (let e : key ≡ (1, a) = cc in e)
-once (suc zero) key is = ap (λ k. place_of (same_name k) three) (let e : key ≡ (2, a) = cc in e)
-once (suc (suc zero)) key is = ap (λ k. place_of (same_name k) three) (let e : key ≡ (1, ab) = cc in e)
-once (suc (suc (suc place))) key is = absurd (cc)
+-- four bytes of names, and one more for each of the three
+sizes : size_of three ≡ 7
+sizes = refl
 
--- and here one comes twice
-abbrev doubled : Entries
-doubled = ((1, a), 10) ∷ ((2, a), 20) ∷ ((1, a), 30) ∷ []
+no_size : size_of {V = ℕ} [] ≡ 0
+no_size = refl
 
-one_place : (m n : ℕ) → Some m ≡ Some n → m ≡ n
-one_place m n is = cc
+-- an empty name counts as well
+empty_name : size_of {V = ℕ} (((1, []), 10) ∷ []) ≡ 1
+empty_name = refl
 
-twice : IsOnce same_name doubled → ⊥
-twice is = absurd (omega (arith, one_place 0 2 (is 2 (1, a) refl)))
-
--- a name of nine bytes in two pieces, and how many more pieces names have
+-- a name of nine bytes in two pieces, and how many pieces names have
 abbrev nine : List ℕ
 nine = 97 ∷ 98 ∷ 99 ∷ 100 ∷ 101 ∷ 102 ∷ 103 ∷ 104 ∷ 105 ∷ []
 
@@ -91,11 +86,13 @@ second_piece : piece_at nine 1 ≡ 104 ∷ 105 ∷ 0 ∷ 0 ∷ 0 ∷ 0 ∷ 0 ∷
 unfolding piece_of
 second_piece = refl
 
-one_more : more_pieces nine ≡ 1
-one_more = refl
+two_pieces : pieces nine ≡ 2
+two_pieces = refl
 
-none_more : more_pieces (97 ∷ 98 ∷ 99 ∷ 100 ∷ 101 ∷ 102 ∷ 103 ∷ []) ≡ 0
-none_more = refl
+one_piece : pieces (97 ∷ 98 ∷ 99 ∷ 100 ∷ 101 ∷ 102 ∷ 103 ∷ []) ≡ 1
+one_piece = refl
 
-of_no_name : more_pieces [] ≡ 0
-of_no_name = refl
+-- the code of the state 258, and keys by their owners and codes
+numbered_code : numbered 258 ≡ 2 ∷ 1 ∷ 0 ∷ 0 ∷ 0 ∷ 0 ∷ 0 ∷ 8 ∷ []
+unfolding numbered
+numbered_code = refl

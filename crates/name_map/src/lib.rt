@@ -2,8 +2,12 @@
 #![tactic(auto)]
 
 mod edges;
+mod key;
+mod name_list;
 mod name_map;
 mod piece;
+mod places;
 mod shelf;
 
+pub use name_list::NameList;
 pub use name_map::NameMap;

@@ -1,20 +1,23 @@
-ghost use Rattle.std.specs.Prelude.{◌≡◌, ℕ, List, ◌<◌, [], Some, length, map, slice_get, slice_index_or, IfSome, IfOk, OnOk, OnErr};
+ghost use Rattle.std.specs.Prelude.{◌≡◌, ◌+◌, ◌<◌, [], Some, length, IfSome, IfOk, OnOk, OnErr};
 ghost use Rattle.std.specs.Map.{lookup};
 ghost use Rattle.std.specs.Option.{option_copied};
-ghost use Rattle.name_map.specs.NameEntries.{same_name, place_of, insert_entry, keep_entry, IsOnce};
+ghost use Rattle.name_map.specs.NameEntries.{same_name, size_of, place_of, insert_entry, keep_entry};
 
-use crate::edges::{Edges, Key, key_of, new_key};
-use crate::shelf::Shelf;
+use crate::edges::Edges;
+use crate::key::key_of;
+use crate::name_list::NameList;
+use crate::places::{Places, put};
 use ordered_map::OrderedMap;
 use std::alloc::{AllocError, Global};
+use std::collections::BTreeMap;
 use std::marker::Model;
 
 /// A key is an owner and the bytes of a name. Contracts see the list of the entries. No call takes
 /// longer than the length of the name and the logarithm of their number, whatever the names are.
 pub struct NameMap<V> {
     edges: Edges,
-    entries: OrderedMap<Key, V>,
-    names: Shelf,
+    places: Places,
+    list: NameList<V>,
 }
 
 impl<V: Drop> Drop for NameMap<V> {
@@ -22,21 +25,21 @@ impl<V: Drop> Drop for NameMap<V> {
     fn drop(self) {
         let NameMap {
             edges: _,
-            entries: _,
-            names: _,
+            places: _,
+            list: _,
         } = self;
     }
 }
 
 impl<V> Model for NameMap<V> {
     ghost use Rattle.std.specs.Prelude.{List, ℕ};
-    ghost use Rattle.name_map.specs.Inside.Kept.{named, Kept};
+    ghost use Rattle.name_map.specs.Inside.Kept.{Kept};
 
     ghost Value = { List ((ℕ × List ℕ) × V) };
 
-    ghost view = { λ m. named m.entries m.names };
+    ghost view = { λ m. m.list };
 
-    ghost invariant = { λ m. Kept m.edges m.entries m.names };
+    ghost invariant = { λ m. Kept m.edges m.places m.list };
 }
 
 impl<V> NameMap<V> {
@@ -46,31 +49,25 @@ impl<V> NameMap<V> {
     {
         NameMap {
             edges: OrderedMap::new(alloc),
-            entries: OrderedMap::new(alloc),
-            names: Shelf::new(alloc),
+            places: BTreeMap::new(alloc),
+            list: NameList::new(alloc),
         }
     }
 
-    pub fn len(&self) -> usize
-        ensures len { result ≡ length self.now }
+    /// The entries.
+    pub fn list(&self) -> &NameList<V>
+        ensures { result.now ≡ self.now }
     {
-        self.entries.len()
+        &self.list
     }
 
-    /// No key has two entries.
-    pub fn apart(&self)
-        ensures { IsOnce same_name self.now }
-    {
-        self.entries.apart();
-    }
-
-    /// As what number the key came, where it is there.
-    pub fn place(&self, owner: u32, name: &[u8]) -> Option<usize>
+    /// As what number the key came, from 0, where it is there.
+    pub fn place(&self, owner: u32, name: &[u8]) -> Option<u32>
         ensures place { result ≡ place_of (same_name (owner, name.now)) self.now }
         ensures inside { IfSome result (λ place. place < length self.now) }
     {
         match key_of(&self.edges, owner, name) {
-            Some(key) => self.entries.place(&key),
+            Some(key) => self.places.get(&key).copied(),
             None => None,
         }
     }
@@ -80,87 +77,59 @@ impl<V> NameMap<V> {
         ensures { option_copied result ≡ lookup (same_name (owner, name.now)) self.now }
     {
         match self.place(owner, name) {
-            Some(place) => self.value(place),
-            None => None,
-        }
-    }
-
-    /// The owner of the entry that came as number `place`, from 0.
-    pub fn owner(&self, place: usize) -> u32
-        requires { place < length self.now }
-        ensures { slice_get (map (λ e. e.0.0) self.now) place ≡ Some result }
-    {
-        match self.entries.at(place) {
-            Some(entry) => entry.0.0,
-            None => unreachable!(),
-        }
-    }
-
-    /// The name of the entry that came as number `place`, from 0.
-    pub fn name(&self, place: usize) -> &[u8]
-        requires { place < length self.now }
-        ensures { slice_index_or (map (λ e. e.0.1) self.now) place [] ≡ result.now }
-    {
-        self.names.get(place)
-    }
-
-    /// The value of the entry that came as number `place`, from 0.
-    pub fn value(&self, place: usize) -> Option<&V>
-        ensures { option_copied result ≡ slice_get (map (λ e. e.1) self.now) place }
-    {
-        match self.entries.at(place) {
-            Some(entry) => Some(&entry.1),
+            Some(place) => self.list().value(place as usize),
             None => None,
         }
     }
 }
 
-impl<V: Drop> NameMap<V> {
+impl<V: Copy + Drop> NameMap<V> {
     /// The key has the value from now on: in its place, or last where it wasn't there. At `Err`
     /// nothing has changed.
     pub fn insert(&mut self, owner: u32, name: &[u8], value: V) -> Result<(), AllocError>
+        requires room { size_of self.old + length name.now < 4294967295 }
         ensures ok { OnOk result (self.new ≡ insert_entry same_name self.old (owner, name.now) value) }
         ensures err { OnErr result (self.new ≡ self.old) }
     {
-        let key = new_key(&mut self.edges, owner, name)?;
-        self.names.push(name)?;
-        let before = self.entries.len();
-        match self.entries.insert(key, value) {
-            Ok(()) => {
-                if self.entries.len() == before {
-                    self.names.pop();
-                }
-                Ok(())
-            }
-            Err(refused) => {
-                self.names.pop();
-                Err(refused)
-            }
-        }
+        let place = self.keep(owner, name, value)?;
+        self.list.put(place as usize, value);
+        Ok(())
     }
 
     /// The number of the key's entry; a key that wasn't there comes last, with this value. At `Err`
     /// nothing has changed.
-    pub fn keep(&mut self, owner: u32, name: &[u8], value: V) -> Result<usize, AllocError>
+    pub fn keep(&mut self, owner: u32, name: &[u8], value: V) -> Result<u32, AllocError>
+        requires room { size_of self.old + length name.now < 4294967295 }
         ensures ok { OnOk result (self.new ≡ keep_entry same_name self.old (owner, name.now) value) }
         ensures place { IfOk result (λ place. place_of (same_name (owner, name.now)) self.new ≡ Some place) }
         ensures inside { IfOk result (λ place. place < length self.new) }
         ensures err { OnErr result (self.new ≡ self.old) }
     {
-        let key = new_key(&mut self.edges, owner, name)?;
-        self.names.push(name)?;
-        let before = self.entries.len();
-        match self.entries.keep(key, value) {
+        let end = self.list.len() as u32;
+        self.list.push(owner, name, value)?;
+        match put(&mut self.edges, &mut self.places, owner, name, end) {
             Ok(place) => {
-                if place < before {
-                    self.names.pop();
+                if place < end {
+                    self.list.pop();
                 }
                 Ok(place)
             }
             Err(refused) => {
-                self.names.pop();
+                self.list.pop();
                 Err(refused)
             }
         }
+    }
+
+    /// The entries alone. What finds them by their keys ends.
+    pub fn into_list(self) -> NameList<V>
+        ensures { result ≡ self }
+    {
+        let NameMap {
+            edges: _,
+            places: _,
+            list,
+        } = self;
+        list
     }
 }

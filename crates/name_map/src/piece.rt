@@ -1,5 +1,5 @@
 ghost use Rattle.std.specs.Prelude.{◌≡◌, ◌*◌, ◌<◌, ◌≤◌, length, slice_index};
-ghost use Rattle.name_map.specs.Inside.States.{piece_of, piece_at, more_pieces};
+ghost use Rattle.name_map.specs.Inside.States.{piece_of, piece_at, pieces};
 
 /// A piece of a name, from 0.
 #[tactic(auto, unfolding(crate::specs::Inside::States::piece_of))]
@@ -14,7 +14,7 @@ pub(crate) fn piece_at(name: &[u8], k: usize) -> [u8; 8]
 
 /// Up to seven bytes, filled up with zeros, and how many they are.
 #[tactic(auto, unfolding(crate::specs::Inside::States::piece_of))]
-fn piece_of(bytes: &[u8]) -> [u8; 8]
+pub(crate) fn piece_of(bytes: &[u8]) -> [u8; 8]
     requires { length bytes.now < 8 }
     ensures { result ≡ piece_of bytes.now }
 {
@@ -37,9 +37,9 @@ fn byte(bytes: &[u8], at: usize) -> u8
     if at < bytes.len() { bytes[at] } else { 0 }
 }
 
-/// How many pieces come behind the first.
-pub(crate) fn more_pieces(name: &[u8]) -> usize
-    ensures { result ≡ more_pieces name.now }
+/// How many pieces a name has.
+pub(crate) fn pieces(name: &[u8]) -> usize
+    ensures { result ≡ pieces name.now }
 {
-    name.len().saturating_sub(1) / 7
+    name.len().saturating_sub(1) / 7 + 1
 }

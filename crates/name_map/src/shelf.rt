@@ -1,4 +1,5 @@
-ghost use Rattle.std.specs.Prelude.{◌≡◌, [], ◌∷◌, ◌++◌, ◌-◌, ◌<◌, ◌≤◌, length, take, slice_index_or, slice_range, OnOk, OnErr};
+ghost use Rattle.std.specs.Prelude.{◌≡◌, [], ◌∷◌, ◌++◌, ◌-◌, ◌+◌, ◌<◌, ◌≤◌, length, take, slice_index_or, slice_range, OnOk, OnErr};
+ghost use Rattle.name_map.specs.Inside.Listed.{bytes_in};
 ghost use Rattle.name_map.specs.Inside.Shelved.{last_end, begin_of};
 
 use std::alloc::{AllocError, Global};
@@ -9,11 +10,12 @@ use std::marker::Model;
 #[derive(Drop)]
 pub(crate) struct Shelf {
     bytes: Vec<u8>,
-    ends: Vec<usize>,
+    ends: Vec<u32>,
 }
 
 impl Model for Shelf {
     ghost use Rattle.std.specs.Prelude.{List, ℕ, ◌≤◌, length};
+    ghost use Rattle.name_map.specs.Inside.Listed.{bytes_in};
     ghost use Rattle.name_map.specs.Inside.Shelved.{names_from, last_end, Rises};
 
     ghost Value = { List (List ℕ) };
@@ -36,13 +38,14 @@ impl Shelf {
 
     /// Puts a name last. At `Err` nothing has changed.
     pub(crate) fn push(&mut self, name: &[u8]) -> Result<(), AllocError>
+        requires room { bytes_in self.old + length name.now < 4294967296 }
         ensures ok { OnOk result (self.new ≡ self.old ++ name.now ∷ []) }
         ensures err { OnErr result (self.new ≡ self.old) }
     {
         let end = last_end(self.ends.as_slice());
         self.bytes.truncate(end);
         self.bytes.extend_from_slice(name)?;
-        self.ends.push(self.bytes.len())?;
+        self.ends.push(self.bytes.len() as u32)?;
         Ok(())
     }
 
@@ -62,27 +65,31 @@ impl Shelf {
         part(
             self.bytes.as_slice(),
             begin_of(ends, place),
-            self.ends[place],
+            self.ends[place] as usize,
         )
     }
 }
 
 /// Where the last name ends.
-fn last_end(ends: &[usize]) -> usize
+fn last_end(ends: &[u32]) -> usize
     ensures { result ≡ last_end 0 ends.now }
 {
     match ends.last() {
-        Some(end) => *end,
+        Some(end) => *end as usize,
         None => 0,
     }
 }
 
 /// Where the name at a place begins.
-fn begin_of(ends: &[usize], place: usize) -> usize
+fn begin_of(ends: &[u32], place: usize) -> usize
     requires { place < length ends.now }
     ensures { result ≡ begin_of 0 ends.now place }
 {
-    if place == 0 { 0 } else { ends[place - 1] }
+    if place == 0 {
+        0
+    } else {
+        ends[place - 1] as usize
+    }
 }
 
 fn part(bytes: &[u8], from: usize, to: usize) -> &[u8]

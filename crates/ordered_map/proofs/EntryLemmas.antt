@@ -6,11 +6,11 @@ use Rattle.std.specs.Cmp.{IsEquivalence}
 use Rattle.std.specs.Map.{lookup}
 use Rattle.std.specs.Prelude.{IfSome}
 use Rattle.std.specs.Option.{option_map, unwrap_or}
-use Rattle.std.specs.BTreeMap.{BTreeMap, btree_map_len, get}
+use Rattle.std.specs.BTreeMap.{BTreeMap, get}
 use Rattle.std.proofs.Math.Logic.{⊎_elim}
 use Rattle.std.proofs.lemmas.Bool.{cases_Bool}
 use Rattle.std.specs.List.{slice_get}
-use Rattle.std.proofs.lemmas.List.{map-append, length-map, length_push, length-set}
+use Rattle.std.proofs.lemmas.List.{map-append, length-map}
 use Rattle.ordered_map.specs.Entries.{insert_entry, keep_entry, place_of, IsOnce, Placed}
 
 record Before (o : Option ℕ) (n : ℕ) : Type 0 where
@@ -27,7 +27,7 @@ none_before None is = refl
 none_before (Some k) is = absurd (cc)
 
 -- the place of an entry behind so many others, where none of them passes
-abbrev or_last : Option ℕ → Bool → ℕ → Option ℕ
+abbrev pub or_last : Option ℕ → Bool → ℕ → Option ℕ
 or_last (Some n) passes last = Some n
 or_last None passes last = cond passes (Some last) None
 
@@ -36,7 +36,7 @@ or_last-next (Some k) passes n = refl
 or_last-next None true n = ap Some (add-one n)
 or_last-next None false n = refl
 
-or_last-none : (o : Option ℕ) (n : ℕ) → or_last o false n ≡ o
+pub or_last-none : (o : Option ℕ) (n : ℕ) → or_last o false n ≡ o
 or_last-none (Some k) n = refl
 or_last-none None n = refl
 
@@ -44,16 +44,21 @@ or-there : (o : Option ℕ) (n end : ℕ) → n ≡ unwrap_or o end → n < end 
 or-there None n end is below = absurd (omega (arith, is, below))
 or-there (Some k) n end is below = ap Some (sym is)
 
--- two lists with one item behind them
-pub push-same : {X : Type 0} (xs ys : List X) (x y : X) → xs ++ x ∷ [] ≡ ys ++ y ∷ [] → (xs ≡ ys) × (x ≡ y)
-push-same [] [] x y is = (refl, cc)
-push-same [] (b ∷ ys) x y is = absurd (omega (arith, ap length is, length_push ys y))
-push-same (a ∷ xs) [] x y is = absurd (omega (arith, ap length is, length_push xs x))
-push-same (a ∷ xs) (b ∷ ys) x y is =
-    let tail : xs ++ x ∷ [] ≡ ys ++ y ∷ [] = cc in
-    let rest = push-same xs ys x y tail in
-    let front : xs ≡ ys = rest.0 in
-    (cc, rest.1)
+or_last-front : (o : Option ℕ) (passes : Bool) (last place : ℕ) → place < last → or_last o passes last ≡ Some place → o ≡ Some place
+or_last-front (Some k) passes last place below is = is
+or_last-front None true last place below is = absurd (let e : last ≡ place = cc in omega (arith, e, below))
+or_last-front None false last place below is = absurd (let no : None ≡ Some place = is in cc)
+
+-- an item of the front of a list
+get-front : {X : Type 0} (xs ys : List X) (i : ℕ) (x : X) → slice_get xs i ≡ Some x → slice_get (xs ++ ys) i ≡ Some x
+get-front [] ys i x is = absurd (let no : None ≡ Some x = is in cc)
+get-front (y ∷ xs) ys zero x is = is
+get-front (y ∷ xs) ys (suc i) x is = get-front xs ys i x is
+
+get-inside : {X : Type 0} (xs : List X) (i : ℕ) (x : X) → slice_get xs i ≡ Some x → i < length xs
+get-inside [] i x is = absurd (let no : None ≡ Some x = is in cc)
+get-inside (y ∷ xs) zero x is = omega arith
+get-inside (y ∷ xs) (suc i) x is = omega (arith, get-inside xs i x is)
 
 -- what stands at a place in a list with one item more
 read-push : {X : Type 0} (xs : List X) (last x : X) (i : ℕ) → slice_get (xs ++ last ∷ []) i ≡ Some x → (slice_get xs i ≡ Some x) ⊎ ((i ≡ length xs) × (last ≡ x))
@@ -94,7 +99,7 @@ module _ {K V : Type 0} where
       ] is
 
   -- an entry behind the others
-  place-push : (passes : K → Bool) (es : List (K × V)) (e : K × V) → place_of passes (es ++ e ∷ []) ≡ or_last (place_of passes es) (passes e.0) (length es)
+  pub place-push : (passes : K → Bool) (es : List (K × V)) (e : K × V) → place_of passes (es ++ e ∷ []) ≡ or_last (place_of passes es) (passes e.0) (length es)
   place-push passes [] e = refl
   place-push passes (x ∷ es) e =
       ap (λ o. cond (passes x.0) (Some 0) (option_map (λ k. k + 1) o)) (place-push passes es e)
@@ -158,28 +163,11 @@ module _ {K V : Type 0} where
     pub found-last : end ≤ n → n ≡ length es
     found-last past = is ∙ ap (λ o. unwrap_or o end) (found ∙ found-missing past) ∙ next
 
-  -- another value for a key
-  pub place-kept : (passes : K → Bool) (same : K → K → Bool) (es : List (K × V)) (key : K) (value : V) (n : ℕ) → place_of (same key) es ≡ Some n → place_of passes (insert_entry same es key value) ≡ place_of passes es
-  place-kept passes same [] key value n is = absurd (let no : None ≡ Some n = is in cc)
-  place-kept passes same (e ∷ es) key value n is =
-      elim (same key e.0) as (λ (b : Bool). cond b (Some 0) (option_map (λ k. k + 1) (place_of (same key) es)) ≡ Some n → place_of passes (cond b ((e.0, value) ∷ es) (e ∷ insert_entry same es key value)) ≡ place_of passes (e ∷ es)) [
-        | true ↦ λ first. refl
-        | false ↦ λ later. (let b = before (place_of (same key) es) n later in ap (λ o. cond (passes e.0) (Some 0) (option_map (λ k. k + 1) o)) (place-kept passes same es key value b.at b.there))
-      ] is
-
   place-congr : (p q : K → Bool) (es : List (K × V)) → ((k : K) → p k ≡ q k) → place_of p es ≡ place_of q es
   place-congr p q [] h = refl
   place-congr p q (e ∷ es) h =
       ap (λ b. cond b (Some 0) (option_map (λ k. k + 1) (place_of p es))) (h e.0)
       ∙ ap (λ o. cond (q e.0) (Some 0) (option_map (λ k. k + 1) o)) (place-congr p q es h)
-
-  pub keys-kept : (same : K → K → Bool) (es : List (K × V)) (key : K) (value : V) (n : ℕ) → place_of (same key) es ≡ Some n → map (λ (e : K × V). e.0) (insert_entry same es key value) ≡ map (λ (e : K × V). e.0) es
-  keys-kept same [] key value n is = absurd (let no : None ≡ Some n = is in cc)
-  keys-kept same (e ∷ es) key value n is =
-      elim (same key e.0) as (λ (b : Bool). cond b (Some 0) (option_map (λ k. k + 1) (place_of (same key) es)) ≡ Some n → map (λ (d : K × V). d.0) (cond b ((e.0, value) ∷ es) (e ∷ insert_entry same es key value)) ≡ e.0 ∷ map (λ (d : K × V). d.0) es) [
-        | true ↦ λ first. refl
-        | false ↦ λ later. (let b = before (place_of (same key) es) n later in ap (λ ks. e.0 ∷ ks) (keys-kept same es key value b.at b.there))
-      ] is
 
   once-push : (same : K → K → Bool) → IsEquivalence same → (es : List (K × V)) (key : K) (value : V) → IsOnce same es → place_of (same key) es ≡ None → IsOnce same (es ++ (key, value) ∷ [])
   once-push same laws es key value once absent place k is =
@@ -190,9 +178,8 @@ module _ {K V : Type 0} where
       (read-push (map (λ (e : K × V). e.0) es) key k place (sym (ap (λ ks. slice_get ks place) (map-append (λ (e : K × V). e.0) es ((key, value) ∷ []))) ∙ is))
 
   -- a key that was found nowhere has its entry last
-  pub placed-push : (same : K → K → Bool) (cmp : K → K → Ordering) → IsEquivalence same → ((x y : K) → same x y ≡ is_eq (cmp x y)) → (es : List (K × V)) (old new : BTreeMap K ℕ) (key : K) (value : V) → Placed same cmp es old → place_of (same key) es ≡ None → ((q : K) → get cmp new q ≡ cond (is_eq (cmp key q)) (Some (length es)) (get cmp old q)) → btree_map_len new ≡ btree_map_len old + 1 → Placed same cmp (es ++ (key, value) ∷ []) new
-  placed-push same cmp laws ties es old new key value placed absent updates more = record {
-    each = omega (arith, more, placed.each, length_push es (key, value));
+  pub placed-push : (same : K → K → Bool) (cmp : K → K → Ordering) → IsEquivalence same → ((x y : K) → same x y ≡ is_eq (cmp x y)) → (es : List (K × V)) (old new : BTreeMap K ℕ) (key : K) (value : V) → Placed same cmp es old → place_of (same key) es ≡ None → ((q : K) → get cmp new q ≡ cond (is_eq (cmp key q)) (Some (length es)) (get cmp old q)) → Placed same cmp (es ++ (key, value) ∷ []) new
+  placed-push same cmp laws ties es old new key value placed absent updates = record {
     found = λ q. updates q
         ∙ ap (λ b. cond b (Some (length es)) (get cmp old q)) (sym (ties key q))
         ∙ ap (λ o. cond (same key q) (Some (length es)) o) (placed.found q)
@@ -211,31 +198,34 @@ module _ {K V : Type 0} where
     once = once-push same laws es key value placed.once absent;
   }
 
-  -- a key that was found is found where it was
-  pub placed-stay : (same : K → K → Bool) (cmp : K → K → Ordering) → IsEquivalence same → ((x y : K) → same x y ≡ is_eq (cmp x y)) → (es : List (K × V)) (old new : BTreeMap K ℕ) (key : K) (n : ℕ) → Placed same cmp es old → place_of (same key) es ≡ Some n → ((q : K) → get cmp new q ≡ cond (is_eq (cmp key q)) (Some n) (get cmp old q)) → btree_map_len new ≡ btree_map_len old → Placed same cmp es new
-  placed-stay same cmp laws ties es old new key n placed there updates long = record {
-    each = long ∙ placed.each;
+  keys-last : (es : List (K × V)) (e : K × V) → slice_get (map (λ (d : K × V). d.0) (es ++ e ∷ [])) (length es) ≡ Some e.0
+  keys-last [] e = refl
+  keys-last (x ∷ es) e = keys-last es e
+
+  -- one entry less: where a key that was found is found, and each key comes once
+  placed-front : (same : K → K → Bool) (es : List (K × V)) (e : K × V) (key : K) (place : ℕ) → place < length es → place_of (same key) (es ++ e ∷ []) ≡ Some place → place_of (same key) es ≡ Some place
+  placed-front same es e key place below is = or_last-front (place_of (same key) es) (same key e.0) (length es) place below (sym (place-push (same key) es e) ∙ is)
+
+  placed-fresh : (same : K → K → Bool) (es : List (K × V)) (e : K × V) → place_of (same e.0) (es ++ e ∷ []) ≡ Some (length es) → place_of (same e.0) es ≡ None
+  placed-fresh same es e is =
+      elim (place_of (same e.0) es) as (λ (o : Option ℕ). place_of (same e.0) es ≡ o → o ≡ None) [
+        | None ↦ λ none. refl
+        | Some n ↦ λ there. absurd (let at : Some n ≡ Some (length es) = ap (λ o. or_last o (same e.0 e.0) (length es)) (sym there) ∙ sym (place-push (same e.0) es e) ∙ is in
+            let same_place : n ≡ length es = cc in omega (arith, same_place, place-inside (same e.0) es n there))
+      ] refl
+
+  pub placed-pop : (same : K → K → Bool) (cmp : K → K → Ordering) → IsEquivalence same → ((x y : K) → same x y ≡ is_eq (cmp x y)) → (es : List (K × V)) (e : K × V) (old new : BTreeMap K ℕ) → Placed same cmp (es ++ e ∷ []) old → ((q : K) → get cmp new q ≡ cond (is_eq (cmp e.0 q)) None (get cmp old q)) → Placed same cmp es new
+  placed-pop same cmp laws ties es e old new placed updates = record {
     found = λ q. updates q
-        ∙ ap (λ b. cond b (Some n) (get cmp old q)) (sym (ties key q))
+        ∙ ap (λ b. cond b None (get cmp old q)) (sym (ties e.0 q))
+        ∙ ap (λ o. cond (same e.0 q) None o) (placed.found q ∙ place-push (same q) es e)
         ∙ ⊎_elim
-        (λ here. ap (λ b. cond b (Some n) (get cmp old q)) here ∙ sym (place-congr (same q) (same key) es (λ k. sym (laws.congr key q k here)) ∙ there))
-        (λ other. ap (λ b. cond b (Some n) (get cmp old q)) other ∙ placed.found q)
-        (cases_Bool (same key q));
-    once = placed.once;
-  }
-
-  -- a new value that was put last, moved to the place of its key
-  pub put-there : (same : K → K → Bool) (es popped : List (K × V)) (key k : K) (value v : V) (n : ℕ) (d : K × V) → es ++ (key, value) ∷ [] ≡ popped ++ (k, v) ∷ [] → d ≡ get_or popped n d → place_of (same key) es ≡ Some n → set popped n (d.0, v) ≡ insert_entry same es key value
-  put-there same es popped key k value v n d is read there =
-      let both = push-same es popped (key, value) (k, v) is in
-      ap (λ xs. set xs n (d.0, v)) (sym both.0)
-      ∙ ap (λ (e : K × V). set es n (d.0, e.1)) (sym both.1)
-      ∙ ap (λ (e : K × V). set es n (e.0, value)) (read ∙ ap (λ xs. get_or xs n d) (sym both.0))
-      ∙ sym (insert-there same es key value n d there)
-
-  pub placed-put : (same : K → K → Bool) (cmp : K → K → Ordering) (es : List (K × V)) (m : BTreeMap K ℕ) (key : K) (value : V) (n : ℕ) → Placed same cmp es m → place_of (same key) es ≡ Some n → Placed same cmp (insert_entry same es key value) m
-  placed-put same cmp es m key value n placed there = record {
-    each = placed.each ∙ sym (ap length (insert-there same es key value n (key, value) there) ∙ length-set es n ((get_or es n (key, value)).0, value));
-    found = λ q. placed.found q ∙ sym (place-kept (same q) same es key value n there);
-    once = λ place k is. place-kept (same k) same es key value n there ∙ placed.once place k (ap (λ ks. slice_get ks place) (sym (keys-kept same es key value n there)) ∙ is);
+        (λ there. ap (λ b. cond b None (or_last (place_of (same q) es) (same q e.0) (length es))) there
+        ∙ sym (place-congr (same q) (same e.0) es (λ k. sym (laws.congr e.0 q k there)) ∙ placed-fresh same es e (placed.once (length es) e.0 (keys-last es e))))
+        (λ other. ap (λ b. cond b None (or_last (place_of (same q) es) (same q e.0) (length es))) other
+        ∙ ap (λ b. or_last (place_of (same q) es) b (length es)) (laws.symm q e.0 ∙ other)
+        ∙ or_last-none (place_of (same q) es) (length es))
+        (cases_Bool (same e.0 q));
+    once = λ place k is. placed-front same es e k place (omega (arith, get-inside (map (λ (d : K × V). d.0) es) place k is, length-map es (λ (d : K × V). d.0)))
+        (placed.once place k (ap (λ ks. slice_get ks place) (map-append (λ (d : K × V). d.0) es (e ∷ [])) ∙ get-front (map (λ (d : K × V). d.0) es) (e.0 ∷ []) place k is));
   }

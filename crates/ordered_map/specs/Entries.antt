@@ -1,8 +1,8 @@
 -- A map as the list of its entries, in the order in which their keys came.
-use Rattle.std.specs.Prelude.{◌≡◌, ℕ, ◌+◌, List, [], ◌∷◌, Bool, Option, Some, None, length, map, slice_get, if◌then◌else◌}
+use Rattle.std.specs.Prelude.{◌≡◌, ℕ, ◌+◌, List, [], ◌∷◌, Bool, Option, Some, None, map, slice_get, if◌then◌else◌}
 use Rattle.std.specs.declared.cmp.Ordering.{Ordering}
 use Rattle.std.specs.Option.{option_map}
-use Rattle.std.specs.BTreeMap.{BTreeMap, btree_map_len, get}
+use Rattle.std.specs.BTreeMap.{BTreeMap, get}
 
 -- a key that is there keeps its place and has the value from now on; a new one comes last
 abbrev pub insert_entry : {K V : Type 0} → (K → K → Bool) → List (K × V) → K → V → List (K × V)
@@ -25,6 +25,5 @@ IsOnce {K} {V} same es = (place : ℕ) (key : K) → slice_get (map (λ (e : K �
 
 -- each key is found at the place of its entry, and nothing else is found
 pub record Placed {K V : Type 0} (same : K → K → Bool) (cmp : K → K → Ordering) (entries : List (K × V)) (places : BTreeMap K ℕ) : Type 0 where
-  pub each : btree_map_len places ≡ length entries
   pub found : (key : K) → get cmp places key ≡ place_of (same key) entries
   pub once : IsOnce same entries

@@ -3,4 +3,4 @@
 
 mod ordered_map;
 
-pub use ordered_map::OrderedMap;
+pub use ordered_map::{OrderedMap, place_or};

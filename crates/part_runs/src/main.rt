@@ -6,11 +6,13 @@ mod count;
 mod escapes;
 mod found;
 mod node;
+mod part;
 mod ranges;
 mod row;
 mod rows;
 
 use count::count;
+use part::{Part, part_of};
 use ranges::ranges;
 use rows::rows;
 use std::alloc::Global;
@@ -27,11 +29,11 @@ fn main(rt: HostRuntime) -> io::Result<ExitCode> {
 /// Runs what the word names over the standard input. Another word is told on the standard error, and
 /// the status is 2.
 fn run(rt: &(impl Input + Print + Eprint + Alloc<A = Global>), word: &str) -> io::Result<ExitCode> {
-    match word {
-        "rows" => rows(rt)?,
-        "count" => count(rt)?,
-        "ranges" => ranges(rt)?,
-        _ => {
+    match part_of(word) {
+        Some(Part::Rows) => rows(rt)?,
+        Some(Part::Count) => count(rt)?,
+        Some(Part::Ranges) => ranges(rt)?,
+        None => {
             eprintln!(rt; "usage: part_runs rows|count|ranges")?;
             return Ok(ExitCode::from(2));
         }

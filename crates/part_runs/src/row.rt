@@ -1,13 +1,16 @@
 use crate::escapes::unescaped;
 use crate::found::{Asked, write_found};
+use crate::part::part_of;
 use crate::ranges::write_sum;
 use std::alloc::{AllocError, Global};
 
-/// What a row is about: what is found in a text, or the sum over so many voltages.
+/// What a row is about: what is found in a text, the sum over so many voltages, or the part that a word
+/// of the command line names.
 #[derive(Clone, Copy)]
 enum Wanted<'a> {
     Found(Asked<'a>),
     Ranges,
+    Word,
 }
 
 /// A row of the table, as it stands there.
@@ -19,8 +22,8 @@ struct Row<'a> {
 }
 
 /// A row is `tokens TEXT -> EXPECTED`, `tree TEXT -> EXPECTED`, `count TEXT -> EXPECTED`,
-/// `walk TEXT -> EXPECTED`, `prefixes TEXT -> EXPECTED`, `values TEXT -> PROPERTY -> EXPECTED` or
-/// `ranges ROUNDS -> SUM`.
+/// `walk TEXT -> EXPECTED`, `prefixes TEXT -> EXPECTED`, `values TEXT -> PROPERTY -> EXPECTED`,
+/// `ranges ROUNDS -> SUM` or `word WORD -> PART`.
 fn read(line: &str) -> Option<Row<'_>> {
     let (word, rest) = line.split_once(' ')?;
     let (text, rest) = rest.split_once(" -> ")?;
@@ -31,6 +34,7 @@ fn read(line: &str) -> Option<Row<'_>> {
         "walk" => (Wanted::Found(Asked::Walk), rest),
         "prefixes" => (Wanted::Found(Asked::Prefixes), rest),
         "ranges" => (Wanted::Ranges, rest),
+        "word" => (Wanted::Word, rest),
         "values" => {
             let (property, expected) = rest.split_once(" -> ")?;
             (Wanted::Found(Asked::Values(property)), expected)
@@ -65,7 +69,16 @@ fn write_row(alloc: Global, found: &mut String, row: &Row<'_>) -> Result<bool, A
             write_found(alloc, found, asked, text.as_slice())?;
         }
         Wanted::Ranges => write_sum(found, row.text)?,
+        Wanted::Word => write_part(found, row.text)?,
     }
     let expected = unescaped(alloc, row.expected)?;
     Ok(found.as_str().trim_end().as_bytes() == expected.as_slice())
+}
+
+/// Appends the part that a word names, or that the program tells how it is used.
+fn write_part(found: &mut String, word: &str) -> Result<(), AllocError> {
+    match part_of(word) {
+        Some(part) => write!(found, "{part:?}"),
+        None => found.push_str("usage"),
+    }
 }

@@ -3,7 +3,7 @@ use Rattle.std.specs.Prelude.{ℕ, zero, suc, ◌<◌, ◌≤◌, List, [], ◌�
 use Rattle.std.specs.List.{AllByRecursion}
 use Rattle.std.specs.Option.{option_map_or}
 use Rattle.dts_tree.specs.declared.store.Span.{Span}
-use Rattle.dts_tree.specs.declared.store.Store.{Store}
+use Rattle.dts_tree.specs.declared.store.Settled.{Settled}
 use Rattle.dts_tree.specs.declared.piece.Piece.{Piece}
 use Rattle.dts_tree.specs.Value.{Property}
 use Rattle.dts_tree.specs.Tree.{Node, rank}
@@ -21,7 +21,7 @@ abbrev pub properties_kept : List (Piece ℕ) → List ((ℕ × List ℕ) × Spa
 properties_kept pieces properties k = map (property_kept pieces) (filter (λ e. nat_eq e.0.0 k) properties)
 
 -- a node by its number
-abbrev pub node_kept : Store → List (Piece ℕ) → List ℕ → ℕ → Node
+abbrev pub node_kept : Settled → List (Piece ℕ) → List ℕ → ℕ → Node
 node_kept store pieces order zero = record { name = []; parent = None; at = option_map_or (λ at. at) store.root_at 0; properties = properties_kept pieces store.properties 0 }
 node_kept store pieces order (suc k) = record {
   name = slice_index_or (map (λ e. e.0.1) store.children) k [];
@@ -31,11 +31,11 @@ node_kept store pieces order (suc k) = record {
 }
 
 -- the nodes in tree order
-unfoldable pub nodes_kept : Store → List (Piece ℕ) → List ℕ → List Node
+unfoldable pub nodes_kept : Settled → List (Piece ℕ) → List ℕ → List Node
 nodes_kept store pieces order = map (node_kept store pieces order) order
 
 -- nodes are laid out and their properties listed, and no reference is to a node that isn't there
-pub record Kept (store : Store) (pieces : List (Piece ℕ)) (order ranks places starts : List ℕ) : Type 0 where
+pub record Kept (store : Settled) (pieces : List (Piece ℕ)) (order ranks places starts : List ℕ) : Type 0 where
   pub few : length store.children < 4294967295
   pub earlier : (k : ℕ) → k < length store.children → slice_index_or (map (λ e. e.0.0) store.children) k 0 ≤ k
   pub layout : IsLayout (0 ∷ map (λ e. e.0.0) store.children) order ranks

@@ -1,5 +1,5 @@
 -- A reader of tokens, as it is kept.
-use Rattle.std.specs.Prelude.{◌≡◌, ◌≢◌, ℕ, ◌+◌, ◌*◌, ◌<◌, ◌≤◌, List, [], ◌∷◌, Result, Ok, Err, map, length, drop, reverse, slice_range}
+use Rattle.std.specs.Prelude.{◌≡◌, ◌≢◌, ℕ, ◌+◌, ◌-◌, ◌<◌, ◌≤◌, List, [], ◌∷◌, Result, Ok, Err, map, length, drop, reverse, slice_range}
 use Rattle.std.specs.List.{AllByRecursion}
 use Rattle.dts_lex.specs.declared.token.Token.{Token}
 use Rattle.dts_tree.specs.declared.fault.TreeFault.{TreeFault}
@@ -13,6 +13,7 @@ use Rattle.dts_tree.specs.declared.reading.symbol.Symbol.{Symbol}
 use Rattle.dts_tree.specs.declared.reading.symbol.Symbol.TheVariants as symbol
 use Rattle.dts_tree.specs.declared.store.Store.{Store}
 use Rattle.dts_tree.specs.declared.store.Opened.{Opened}
+use Rattle.name_map.specs.NameEntries.{size_of}
 use Rattle.dts_tree.specs.Lexeme.{unescaped}
 use Rattle.dts_tree.specs.Setting.{Label}
 use Rattle.dts_tree.specs.Value.{part_by}
@@ -100,41 +101,48 @@ pub record Held (first : ℕ) (pieces : List (Piece Place)) (open_ : List ℕ) (
 abbrev pub Kept : Reader → Type 0
 Kept r = Held r.from r.pieces.items r.bodies.items r.store
 
--- a name that is read and not yet put
+-- how many bytes a text has in a name that isn't put yet, and one more once it has begun
 abbrev pub pending : Spot → ℕ
 pending spot.Start = 0
-pending spot.Versioned = 0
-pending spot.Inside = 0
-pending (spot.Slashed at) = 0
-pending spot.Added = 0
-pending spot.Closed = 0
-pending (spot.Worded t) = 1
-pending spot.Behind = 0
-pending (spot.Named t) = 1
-pending (spot.Valued t) = 1
-pending (spot.InCells t) = 1
-pending (spot.InBytes t) = 1
-pending (spot.Parted t) = 1
+pending spot.Versioned = 1
+pending spot.Inside = 1
+pending (spot.Slashed at) = 1
+pending spot.Added = 1
+pending spot.Closed = 1
+pending (spot.Worded t) = t.end - t.start + 1
+pending spot.Behind = 1
+pending (spot.Named t) = t.end - t.start + 1
+pending (spot.Valued t) = t.end - t.start + 1
+pending (spot.InCells t) = t.end - t.start + 1
+pending (spot.InBytes t) = t.end - t.start + 1
+pending (spot.Parted t) = t.end - t.start + 1
 
--- each name that was put took two tokens of so many
+-- how many bytes it has in labels that wait for their node, with one more for each
+abbrev pub waiting_size : List Token → ℕ
+waiting_size [] = 0
+waiting_size (t ∷ ts) = t.end - t.start + 1 + waiting_size ts
+
+-- the names that were put and those that weren't yet are among so many bytes
 abbrev pub Counted : ℕ → Reader → Type 0
-Counted n r = (2 * length r.store.children + pending r.spot ≤ n) × (2 * length r.store.properties + pending r.spot ≤ n)
+Counted n r = (size_of r.store.children + pending r.spot ≤ n) × (size_of r.store.properties + pending r.spot ≤ n) × (size_of r.store.labels + waiting_size r.waiting.items + pending r.spot ≤ n)
 
--- the reader has come to what was expected, by one token
-pub record Went (expected : Result View TreeFault) (text : List ℕ) (old new : Reader) : Type 0 where
+-- the reader has come to what was expected, by the bytes up to this place
+pub record Went (expected : Result View TreeFault) (text : List ℕ) (end : ℕ) (new : Reader) : Type 0 where
   pub view : expected ≡ Ok (view_of text new)
   pub kept : Kept new
-  pub counted : (n : ℕ) → Counted n old → Counted (n + 1) new
+  pub counted : Counted end new
 
 -- a reader may take a token of this class with these bytes
 pub record Ready (text bytes : List ℕ) (t : Token) (s : Symbol) (r : Reader) : Type 0 where
   pub kept : Kept r
   pub token : IsIn text t
+  pub fits : t.end < 4294967296
   pub inner : IsInner text bytes t s
+  pub counted : Counted t.start r
 
 -- it took the token as it should
 abbrev pub Took : List ℕ → List ℕ → Token → Symbol → Reader → Reader → Taking → Type 0
-Took text inner t s old new take = Went (asked text inner t s old take) text old new
+Took text inner t s old new take = Went (asked text inner t s old take) text t.end new
 
 -- it failed as it should
 abbrev pub Failed : List ℕ → List ℕ → Token → Symbol → Reader → Taking → TreeFault → Type 0

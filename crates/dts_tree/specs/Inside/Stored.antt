@@ -2,6 +2,7 @@
 use Rattle.std.specs.Prelude.{ℕ, ◌<◌, ◌≤◌, List, map, length, slice_range, slice_index_or}
 use Rattle.std.specs.List.{flat_map}
 use Rattle.dts_tree.specs.declared.store.Span.{Span}
+use Rattle.dts_tree.specs.declared.store.Settled.{Settled}
 use Rattle.dts_tree.specs.declared.store.Store.{Store}
 use Rattle.dts_tree.specs.declared.piece.Piece.{Piece}
 use Rattle.dts_tree.specs.declared.piece.Place.{Place}
@@ -17,6 +18,10 @@ value_in text pieces span = map (part_by (label_at text)) (parts_of (slice_range
 -- the values of properties
 abbrev pub values_kept : List ℕ → List (Piece Place) → List ((ℕ × List ℕ) × Span) → List ((ℕ × List ℕ) × List (Part Label))
 values_kept text pieces es = map (λ e. (e.0, value_in text pieces e.1)) es
+
+-- what was set, in its two parts: all but the labels, and these
+abbrev pub store_of : Settled → List ((ℕ × List ℕ) × ℕ) → Store
+store_of settled labels = record { root_at = settled.root_at; children = settled.children; labels = labels; properties = settled.properties }
 
 -- the content that is kept
 abbrev pub content_of : List ℕ → List (Piece Place) → Store → Content

@@ -1,6 +1,7 @@
-ghost use Rattle.std.specs.Prelude.{◌≡◌, ◌≢◌, ◌<◌, ◌≤◌, ◌+◌, ◌++◌, ℕ, List, length, map, reverse, IfOk, IfErr, OnOk, OnErr};
+ghost use Rattle.std.specs.Prelude.{◌≡◌, ◌≢◌, ◌<◌, ◌≤◌, ◌+◌, ◌-◌, ◌++◌, ℕ, List, length, map, reverse, IfOk, IfErr, OnOk, OnErr};
+ghost use Rattle.name_map.specs.NameEntries.{size_of};
 ghost use Rattle.dts_tree.specs.Content.{child_of, elsewhere, with_labels};
-ghost use Rattle.dts_tree.specs.Inside.Reader.{Counted, Failed, IsIn, Kept, Ready, Took, Went, label_in, name_in, pending, view_of};
+ghost use Rattle.dts_tree.specs.Inside.Reader.{Counted, Failed, IsIn, Kept, Ready, Took, Went, label_in, name_in, pending, view_of, waiting_size};
 ghost use Rattle.dts_tree.specs.Inside.View as view;
 
 use crate::fault::TreeFault;
@@ -103,7 +104,7 @@ impl Reader {
         inner: &[u8],
         symbol: Symbol,
     ) -> Result<(), TreeFault>
-        requires spot { pending self.old.spot ≡ 0 }
+        requires spot { pending self.old.spot ≡ 1 }
         requires ready { Ready text.now inner.now token.now symbol self.old }
         ensures ok { OnOk result (Took text.now inner.now token.now symbol self.old self.new view.take_semicolon) }
         ensures fault { IfErr result (Failed text.now inner.now token.now symbol self.old view.take_semicolon) }
@@ -124,7 +125,7 @@ impl Reader {
         inner: &[u8],
         symbol: Symbol,
     ) -> Result<(), TreeFault>
-        requires spot { pending self.old.spot ≡ 0 }
+        requires spot { pending self.old.spot ≡ 1 }
         requires ready { Ready text.now inner.now token.now symbol self.old }
         ensures ok { OnOk result (Took text.now inner.now token.now symbol self.old self.new view.take_open) }
         ensures fault { IfErr result (Failed text.now inner.now token.now symbol self.old view.take_open) }
@@ -145,7 +146,7 @@ impl Reader {
         inner: &[u8],
         symbol: Symbol,
     ) -> Result<(), TreeFault>
-        requires spot { pending self.old.spot ≡ 0 }
+        requires spot { pending self.old.spot ≡ 1 }
         requires ready { Ready text.now inner.now token.now symbol self.old }
         ensures ok { OnOk result (Took text.now inner.now token.now symbol self.old self.new view.take_item) }
         ensures fault { IfErr result (Failed text.now inner.now token.now symbol self.old view.take_item) }
@@ -176,7 +177,7 @@ impl Reader {
         inner: &[u8],
         symbol: Symbol,
     ) -> Result<(), TreeFault>
-        requires spot { pending self.old.spot ≡ 0 }
+        requires spot { pending self.old.spot ≡ 1 }
         requires ready { Ready text.now inner.now token.now symbol self.old }
         ensures ok { OnOk result (Took text.now inner.now token.now symbol self.old self.new view.take_member) }
         ensures fault { IfErr result (Failed text.now inner.now token.now symbol self.old view.take_member) }
@@ -222,7 +223,7 @@ impl Reader {
         symbol: Symbol,
         slash: u32,
     ) -> Result<(), TreeFault>
-        requires spot { pending self.old.spot ≡ 0 }
+        requires spot { pending self.old.spot ≡ 1 }
         requires ready { Ready text.now inner.now token.now symbol self.old }
         ensures ok { OnOk result (Took text.now inner.now token.now symbol self.old self.new (λ v word at wrong. view.take_slashed v word at wrong slash)) }
         ensures fault { IfErr result (Failed text.now inner.now token.now symbol self.old (λ v word at wrong. view.take_slashed v word at wrong slash)) }
@@ -246,9 +247,8 @@ impl Reader {
         symbol: Symbol,
         name: Token,
     ) -> Result<(), TreeFault>
-        requires spot { pending self.old.spot ≡ 1 }
+        requires spot { pending self.old.spot ≡ name.end - name.start + 1 }
         requires ready { Ready text.now inner.now token.now symbol self.old }
-        requires few { length self.old.store.children < 4294967294 }
         ensures ok { OnOk result (Took text.now inner.now token.now symbol self.old self.new (λ v word at wrong. view.take_named v word at wrong (name_in text.now name) name.start)) }
         ensures fault { IfErr result (Failed text.now inner.now token.now symbol self.old (λ v word at wrong. view.take_named v word at wrong (name_in text.now name) name.start)) }
     {
@@ -261,7 +261,10 @@ impl Reader {
                 self.spot = Spot::Behind;
                 Ok(())
             }
-            Symbol::Open => { self.open_child(text, &name) }
+            Symbol::Open => {
+                self.open_child(text, &name)?;
+                Ok(())
+            }
             _ => Err(fault_of(text, token)),
         }
     }
@@ -274,9 +277,8 @@ impl Reader {
         symbol: Symbol,
         name: Token,
     ) -> Result<(), TreeFault>
-        requires spot { pending self.old.spot ≡ 1 }
+        requires spot { pending self.old.spot ≡ name.end - name.start + 1 }
         requires ready { Ready text.now inner.now token.now symbol self.old }
-        requires few { length self.old.store.children < 4294967294 }
         ensures ok { OnOk result (Took text.now inner.now token.now symbol self.old self.new (λ v word at wrong. view.take_worded v word at wrong (name_in text.now name) name.start)) }
         ensures fault { IfErr result (Failed text.now inner.now token.now symbol self.old (λ v word at wrong. view.take_worded v word at wrong (name_in text.now name) name.start)) }
     {
@@ -306,7 +308,7 @@ impl Reader {
         inner: &[u8],
         symbol: Symbol,
     ) -> Result<(), TreeFault>
-        requires spot { pending self.old.spot ≡ 0 }
+        requires spot { pending self.old.spot ≡ 1 }
         requires ready { Ready text.now inner.now token.now symbol self.old }
         ensures ok { OnOk result (Took text.now inner.now token.now symbol self.old self.new view.take_behind) }
         ensures fault { IfErr result (Failed text.now inner.now token.now symbol self.old view.take_behind) }
@@ -328,7 +330,7 @@ impl Reader {
         symbol: Symbol,
         name: Token,
     ) -> Result<(), TreeFault>
-        requires spot { pending self.old.spot ≡ 1 }
+        requires spot { pending self.old.spot ≡ name.end - name.start + 1 }
         requires ready { Ready text.now inner.now token.now symbol self.old }
         ensures ok { OnOk result (Took text.now inner.now token.now symbol self.old self.new (λ v word at wrong. view.take_valued v word at wrong (name_in text.now name))) }
         ensures fault { IfErr result (Failed text.now inner.now token.now symbol self.old (λ v word at wrong. view.take_valued v word at wrong (name_in text.now name))) }
@@ -368,7 +370,7 @@ impl Reader {
         symbol: Symbol,
         name: Token,
     ) -> Result<(), TreeFault>
-        requires spot { pending self.old.spot ≡ 1 }
+        requires spot { pending self.old.spot ≡ name.end - name.start + 1 }
         requires ready { Ready text.now inner.now token.now symbol self.old }
         ensures ok { OnOk result (Took text.now inner.now token.now symbol self.old self.new (λ v word at wrong. view.take_cells v word at wrong (name_in text.now name))) }
         ensures fault { IfErr result (Failed text.now inner.now token.now symbol self.old (λ v word at wrong. view.take_cells v word at wrong (name_in text.now name))) }
@@ -400,7 +402,7 @@ impl Reader {
         symbol: Symbol,
         name: Token,
     ) -> Result<(), TreeFault>
-        requires spot { pending self.old.spot ≡ 1 }
+        requires spot { pending self.old.spot ≡ name.end - name.start + 1 }
         requires ready { Ready text.now inner.now token.now symbol self.old }
         ensures ok { OnOk result (Took text.now inner.now token.now symbol self.old self.new (λ v word at wrong. view.take_bytes v word at wrong (name_in text.now name))) }
         ensures fault { IfErr result (Failed text.now inner.now token.now symbol self.old (λ v word at wrong. view.take_bytes v word at wrong (name_in text.now name))) }
@@ -431,7 +433,7 @@ impl Reader {
         symbol: Symbol,
         name: Token,
     ) -> Result<(), TreeFault>
-        requires spot { pending self.old.spot ≡ 1 }
+        requires spot { pending self.old.spot ≡ name.end - name.start + 1 }
         requires ready { Ready text.now inner.now token.now symbol self.old }
         ensures ok { OnOk result (Took text.now inner.now token.now symbol self.old self.new (λ v word at wrong. view.take_parted v word at wrong (name_in text.now name))) }
         ensures fault { IfErr result (Failed text.now inner.now token.now symbol self.old (λ v word at wrong. view.take_parted v word at wrong (name_in text.now name))) }
@@ -452,9 +454,10 @@ impl Reader {
     /// Takes the next token.
     pub(crate) fn take(&mut self, text: &[u8], token: &Token) -> Result<(), TreeFault>
         requires kept { Kept self.old }
+        requires short { length text.now ≤ 4294967295 }
         requires token { IsIn text.now token.now }
-        requires few { length self.old.store.children < 4294967294 }
-        ensures ok { OnOk result (Went (view.take_token text.now (view_of text.now self.old) token.now) text.now self.old self.new) }
+        requires counted { Counted token.now.start self.old }
+        ensures ok { OnOk result (Went (view.take_token text.now (view_of text.now self.old) token.now) text.now token.now.end self.new) }
         ensures fault { IfErr result (λ fault. fault ≢ TreeFault.Memory → view.take_token text.now (view_of text.now self.old) token.now ≡ Err fault) }
     {
         let symbol = symbol_of(text, token);
@@ -502,8 +505,9 @@ impl Reader {
 
     /// Sets a property of the innermost node to the value that was read.
     fn set(&mut self, text: &[u8], name: &Token) -> Result<(), AllocError>
-        requires spot { pending self.old.spot ≡ 1 }
+        requires spot { pending self.old.spot ≡ name.now.end - name.now.start + 1 }
         requires kept { Kept self.old }
+        requires room { size_of self.old.store.properties + (name.now.end - name.now.start) < 4294967295 }
         ensures view { OnOk result (view.view_set (view_of text.now self.old) (name_in text.now name.now) ≡ view_of text.now self.new) }
         ensures kept { OnOk result (Kept self.new) }
         ensures counted { OnOk result ((n : ℕ) → Counted n self.old → Counted (n + 1) self.new) }
@@ -536,10 +540,13 @@ impl Reader {
 
     /// Opens the body of a child of the innermost node, at which the waiting labels then stand.
     fn open_child(&mut self, text: &[u8], name: &Token) -> Result<(), TreeFault>
-        requires spot { pending self.old.spot ≡ 1 }
+        requires spot { pending self.old.spot ≡ name.now.end - name.now.start + 1 }
         requires kept { Kept self.old }
-        requires few { length self.old.store.children < 4294967294 }
-        ensures ok { OnOk result (Went (view.open_child (view_of text.now self.old) (name_in text.now name.now) name.now.start) text.now self.old self.new) }
+        requires room { size_of self.old.store.children + (name.now.end - name.now.start) < 4294967295 }
+        requires labels { size_of self.old.store.labels + waiting_size self.old.waiting.items < 4294967296 }
+        ensures view { OnOk result (view.open_child (view_of text.now self.old) (name_in text.now name.now) name.now.start ≡ Ok (view_of text.now self.new)) }
+        ensures kept { OnOk result (Kept self.new) }
+        ensures counted { OnOk result ((n : ℕ) → Counted n self.old → Counted (n + 1) self.new) }
         ensures fault { IfErr result (λ fault. fault ≢ TreeFault.Memory → view.open_child (view_of text.now self.old) (name_in text.now name.now) name.now.start ≡ Err fault) }
     {
         let parent = self.here();
@@ -556,7 +563,7 @@ impl Reader {
             depth: depth + 1,
         };
         let place = self.store.children.keep(parent, word, opened)?;
-        let node = place as u32 + 1;
+        let node = place + 1;
         put_labels(&mut self.store.labels, text, self.waiting.as_slice(), node)?;
         self.waiting.clear();
         self.bodies.push(node)?;
@@ -611,6 +618,7 @@ fn put_labels(
     waiting: &[Token],
     node: u32,
 ) -> Result<(), AllocError>
+    requires room { size_of labels.old + waiting_size waiting.now < 4294967296 }
     ensures { OnOk result (labels.new ≡ with_labels labels.old node (map (label_in text.now) waiting.now)) }
 {
     for token in waiting {

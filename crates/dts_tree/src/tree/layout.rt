@@ -4,7 +4,7 @@ ghost use Rattle.dts_tree.specs.Inside.Layout.{IsLayout};
 use crate::store::Opened;
 use crate::tree::order::{ranks_of, tree_order};
 use crate::tree::owners::parents_of;
-use name_map::NameMap;
+use name_map::NameList;
 use std::alloc::{AllocError, Global};
 
 /// The numbers of the nodes in tree order, and where each of them stands there.
@@ -14,7 +14,7 @@ pub(crate) struct Layout {
     pub(crate) ranks: Vec<u32>,
 }
 
-pub(crate) fn layout_of(alloc: Global, children: &NameMap<Opened>) -> Result<Layout, AllocError>
+pub(crate) fn layout_of(alloc: Global, children: &NameList<Opened>) -> Result<Layout, AllocError>
     requires few { length children.now < 4294967295 }
     requires earlier { (k : ℕ) → k < length children.now → slice_index_or (map (λ e. e.0.0) children.now) k 0 ≤ k }
     ensures { IfOk result (λ layout. IsLayout (0 ∷ map (λ e. e.0.0) children.now) layout.order.items layout.ranks.items) }

@@ -5,7 +5,7 @@ ghost use Rattle.dts_tree.specs.Inside.Listing.{IsListing};
 use crate::store::Span;
 use crate::tree::links::{Links, links_of};
 use crate::tree::owners::owners_of;
-use name_map::NameMap;
+use name_map::NameList;
 use std::alloc::{AllocError, Global};
 
 /// The properties node by node in tree order: the places of their entries, and where those of each
@@ -19,7 +19,7 @@ pub(crate) struct Listing {
 /// The listing for nodes of these numbers, which are below `count`.
 pub(crate) fn listing_of(
     alloc: Global,
-    properties: &NameMap<Span>,
+    properties: &NameList<Span>,
     order: &[u32],
     count: usize,
 ) -> Result<Listing, AllocError>
@@ -45,7 +45,7 @@ pub(crate) fn listing_of(
 
 fn property_links(
     alloc: Global,
-    properties: &NameMap<Span>,
+    properties: &NameList<Span>,
     count: usize,
 ) -> Result<Links, AllocError>
     requires few { length properties.now ≤ 2 ^ 32 }

@@ -5,20 +5,21 @@ ghost use Rattle.dts_tree.specs.Look.{bare, properties_at, property_at, property
 ghost use Rattle.dts_tree.specs.Inside.Below.{IsPieceBelow};
 ghost use Rattle.dts_tree.specs.Inside.Made.{outcome_kept};
 ghost use Rattle.dts_tree.specs.Inside.Pieces.{parts_of};
-ghost use Rattle.dts_tree.specs.Inside.Stored.{Sound};
+ghost use Rattle.dts_tree.specs.Inside.Stored.{store_of, Sound};
 
 use crate::fault::TreeFault;
 use crate::piece::{Piece, Place};
-use crate::store::{Span, Store};
+use crate::store::{Settled, Span};
 use crate::tree::layout::{Layout, layout_of};
 use crate::tree::listing::{Listing, listing_of};
 use crate::tree::numbered::numbered;
+use name_map::NameMap;
 use std::alloc::Global;
 use std::marker::Model;
 
 /// The nodes of a tree in tree order, by the numbers that they have while the text is read.
 pub(crate) struct Nodes {
-    pub(crate) store: Store,
+    pub(crate) store: Settled,
     pub(crate) layout: Layout,
     pub(crate) pieces: Vec<Piece<u32>>,
     pub(crate) listing: Listing,
@@ -115,7 +116,7 @@ impl Nodes {
     {
         let start = self.listing.starts[node as usize];
         let place = self.listing.places[start + prop];
-        self.store.properties.name(place as usize)
+        self.store.properties.list().name(place as usize)
     }
 
     /// The pieces of a property's value, where the node has the property.
@@ -138,17 +139,23 @@ impl Nodes {
 pub(crate) fn nodes_of(
     alloc: Global,
     text: &[u8],
-    store: Store,
+    store: Settled,
+    labels: NameMap<u32>,
     pieces: Vec<Piece<Place>>,
 ) -> Result<Nodes, TreeFault>
-    requires sound { Sound store }
-    ensures tree { IfOk result (λ nodes. outcome_kept text.now pieces.items store ≡ Ok nodes) }
-    ensures fault { IfErr result (λ fault. fault ≢ TreeFault.Memory → outcome_kept text.now pieces.items store ≡ Err fault) }
+    requires sound { Sound (store_of store labels) }
+    ensures tree { IfOk result (λ nodes. outcome_kept text.now pieces.items (store_of store labels) ≡ Ok nodes) }
+    ensures fault { IfErr result (λ fault. fault ≢ TreeFault.Memory → outcome_kept text.now pieces.items (store_of store labels) ≡ Err fault) }
 {
     let layout = layout_of(alloc, &store.children)?;
-    let pieces = numbered(alloc, text, &store.labels, layout.ranks.as_slice(), pieces)?;
+    let pieces = numbered(alloc, text, &labels, layout.ranks.as_slice(), pieces)?;
     let count = layout.ranks.len();
-    let listing = listing_of(alloc, &store.properties, layout.order.as_slice(), count)?;
+    let listing = listing_of(
+        alloc,
+        store.properties.list(),
+        layout.order.as_slice(),
+        count,
+    )?;
     Ok(Nodes {
         store,
         layout,

@@ -1,10 +1,10 @@
 ghost use Rattle.std.specs.Prelude.{◌≡◌, ◌<◌, ◌^◌, ◌∷◌, ◌++◌, length, map, IfOk, OnOk};
 
-use name_map::NameMap;
+use name_map::NameList;
 use std::alloc::{AllocError, Global};
 
 /// The owners of all entries, in their order.
-pub(crate) fn owners_of<V>(alloc: Global, entries: &NameMap<V>) -> Result<Vec<u32>, AllocError>
+pub(crate) fn owners_of<V>(alloc: Global, entries: &NameList<V>) -> Result<Vec<u32>, AllocError>
     ensures { IfOk result (λ owners. owners.items ≡ map (λ e. e.0.0) entries.now) }
 {
     let mut owners = Vec::with_capacity(alloc, entries.len())?;
@@ -13,7 +13,7 @@ pub(crate) fn owners_of<V>(alloc: Global, entries: &NameMap<V>) -> Result<Vec<u3
 }
 
 /// The parents of all nodes, by their numbers. The root's is never looked at.
-pub(crate) fn parents_of<V>(alloc: Global, children: &NameMap<V>) -> Result<Vec<u32>, AllocError>
+pub(crate) fn parents_of<V>(alloc: Global, children: &NameList<V>) -> Result<Vec<u32>, AllocError>
     requires { length children.now < 2 ^ 32 }
     ensures { IfOk result (λ parents. parents.items ≡ 0 ∷ map (λ e. e.0.0) children.now) }
 {
@@ -23,7 +23,7 @@ pub(crate) fn parents_of<V>(alloc: Global, children: &NameMap<V>) -> Result<Vec<
     Ok(parents)
 }
 
-fn put_owners<V>(owners: &mut Vec<u32>, entries: &NameMap<V>) -> Result<(), AllocError>
+fn put_owners<V>(owners: &mut Vec<u32>, entries: &NameList<V>) -> Result<(), AllocError>
     ensures { OnOk result (owners.new.items ≡ owners.old.items ++ map (λ e. e.0.0) entries.now) }
 {
     let count = entries.len();

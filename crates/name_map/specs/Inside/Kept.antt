@@ -1,33 +1,26 @@
--- How entries are kept: by short keys, with their names on a shelf.
-use Rattle.std.specs.Prelude.{◌≡◌, ℕ, ◌<◌, List, [], ◌∷◌, Bool, ◌&&◌, nat_eq, Option, Some, length}
-use Rattle.std.specs.Option.{option_map}
-use Rattle.std.specs.Str.{bytes_eq}
-use Rattle.name_map.specs.Inside.States.{Edges, piece_at, state_of}
+-- How entries are found: by short keys.
+use Rattle.std.specs.Prelude.{◌≡◌, ℕ, ◌≤◌, List, Some, length, if◌then◌else◌}
+use Rattle.std.specs.List.{AllByRecursion}
+use Rattle.std.specs.BTreeMap.{BTreeMap, get}
+use Rattle.std.specs.Option.{IsSome, unwrap_or}
+use Rattle.std.specs.Ordering.{is_eq}
+use Rattle.name_map.specs.NameEntries.{place_of, size_of}
+use Rattle.name_map.specs.Inside.Keys.{Key, key_of, key_cmp, is_key}
+use Rattle.name_map.specs.Inside.States.{Edges}
 
--- an owner, the state that a name leads to, and the first piece of the name
-abbrev pub Key : Type 0
-Key = ℕ × ℕ × List ℕ
+abbrev pub Places : Type 0
+Places = BTreeMap Key ℕ
 
-abbrev pub same_key : Key → Key → Bool
-same_key a b = (nat_eq a.0 b.0 && nat_eq a.1 b.1) && bytes_eq a.2 b.2
+-- each entry has a short key and is found by it, and nothing else is found; and no edge is there but by a
+-- byte of a name
+pub record Kept {V : Type 0} (edges : Edges) (places : Places) (entries : List ((ℕ × List ℕ) × V)) : Type 0 where
+  pub few : length edges ≤ size_of entries
+  pub short : size_of entries ≤ 4294967295
+  pub coded : AllByRecursion (λ e. IsSome (key_of edges e.0)) entries
+  pub found : (key : Key) → get key_cmp places key ≡ place_of (λ a. is_key key (key_of edges a)) entries
 
--- the short key of an owner and a name, where the name leads to a state
-abbrev pub key_of : Edges → ℕ × List ℕ → Option Key
-key_of edges a = option_map (λ state. (a.0, state, piece_at a.1 0)) (state_of edges a.1)
-
--- the entries with their names
-abbrev pub named : {V : Type 0} → List (Key × V) → List (List ℕ) → List ((ℕ × List ℕ) × V)
-named [] names = []
-named (e ∷ es) [] = []
-named (e ∷ es) (name ∷ names) = ((e.0.0, name), e.1) ∷ named es names
-
--- each entry has the short key of its owner and its name
-abbrev pub Coded : {V : Type 0} → Edges → List (Key × V) → List (List ℕ) → Type 0
-Coded edges [] [] = Unit {0}
-Coded edges [] (name ∷ names) = ⊥
-Coded edges (e ∷ es) [] = ⊥
-Coded edges (e ∷ es) (name ∷ names) = (key_of edges (e.0.0, name) ≡ Some e.0) × Coded edges es names
-
-pub record Kept {V : Type 0} (edges : Edges) (entries : List (Key × V)) (names : List (List ℕ)) : Type 0 where
-  pub few : length edges < 4294967295
-  pub coded : Coded edges entries names
+-- a key stands at a place: where it stood, or else at the end
+pub record IsPut (edges : Edges) (a : ℕ × List ℕ) (old new : Places) (end place : ℕ) : Type 0 where
+  pub led : IsSome (key_of edges a)
+  pub at : (key : Key) → key_of edges a ≡ Some key → place ≡ unwrap_or (get key_cmp old key) end
+  pub found : (key : Key) → key_of edges a ≡ Some key → (q : Key) → get key_cmp new q ≡ (if is_eq (key_cmp key q) then Some place else get key_cmp old q)

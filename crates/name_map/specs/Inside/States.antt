@@ -16,20 +16,20 @@ piece_of bs = slice_index bs 0 ∷ slice_index bs 1 ∷ slice_index bs 2 ∷ sli
 abbrev pub piece_at : List ℕ → ℕ → List ℕ
 piece_at name k = piece_of (take 7 (drop (7 * k) name))
 
--- how many pieces come behind the first
-abbrev pub more_pieces : List ℕ → ℕ
-more_pieces name = (length name - 1) / 7
+-- how many pieces a name has
+abbrev pub pieces : List ℕ → ℕ
+pieces name = (length name - 1) / 7 + 1
 
 -- one piece further
 abbrev pub step : Edges → List ℕ → Option ℕ → Option ℕ
 step edges piece None = None
 step edges piece (Some state) = option_map (λ place. place + 1) (place_of (same_name (state, piece)) edges)
 
--- the state that so many pieces behind the first lead to, from the state 0
+-- the state that so many pieces lead to, from the state 0
 unfoldable pub walk : Edges → List ℕ → ℕ → Option ℕ
 walk edges name zero = Some 0
-walk edges name (suc k) = step edges (piece_at name (k + 1)) (walk edges name k)
+walk edges name (suc k) = step edges (piece_at name k) (walk edges name k)
 
 -- the state that a name leads to
 abbrev pub state_of : Edges → List ℕ → Option ℕ
-state_of edges name = walk edges name (more_pieces name)
+state_of edges name = walk edges name (pieces name)

@@ -1,9 +1,9 @@
-use Rattle.std.proofs.Common.{◌∙◌, ◌*◌, ◌≤◌, Ok, Err, sym, length, arith}
+use Rattle.std.proofs.Common.{◌∙◌, ◌<◌, Ok, Err, sym, length, arith}
 use Rattle.std.proofs.lemmas.Result.{IfOk-weaker, IfErr-weaker, err_from_is_err_and}
-use Rattle.dts_lex.specs.Lex.{SpansRise}
+use Rattle.name_map.proofs.KeptLemmas.{size-length}
 use Rattle.dts_tree.specs.Inside.Reader.{view_of}
 use Rattle.dts_tree.proofs.LawLemmas.{outcome_wrong, outcome_early, outcome_whole}
-use Rattle.dts_tree.proofs.TakeLemmas.{sound, spans_length}
+use Rattle.dts_tree.proofs.TakeLemmas.{sound, may_begun}
 use Rattle.dts_tree.proofs.parser.parse.Goals as goal
 
 pub read-requires-clause-spans : goal.read-requires-clause-spans
@@ -23,11 +23,10 @@ pub tree_of-requires : goal.tree_of-requires
 tree_of-requires c =
     let r = c.in_ok-reader.reader in
     let text = c.args.text.now in
-    let rises : SpansRise 0 (length text) c.args.tokens.now = c.spans_rise.ensures text c.args.tokens.now c.requires.lexed in
-    let long = spans_length 0 (length text) c.args.tokens.now rises in
     let counted = c.in_ok-reader.ensures.counted in
-    let children : 2 * length r.store.children ≤ 4294967295 = omega (arith, counted.0, long, c.requires.short) in
-    let properties : 2 * length r.store.properties ≤ 4294967295 = omega (arith, counted.1, long, c.requires.short) in
+    let begun = may_begun text r (sym (c.may_end.ensures text) ∙ c.if-not-may_end.false) in
+    let children : length r.store.children < 4294967295 = omega (arith, size-length r.store.children, counted.0, begun, c.requires.short) in
+    let properties : length r.store.properties < 4294967295 = omega (arith, size-length r.store.properties, counted.1, begun, c.requires.short) in
     rw c.into_set-store.ensures.store (record { sound = sound r.from r.pieces.items r.bodies.items r.store c.in_ok-reader.ensures.kept children properties })
 
 -- what comes of what is kept is the outcome

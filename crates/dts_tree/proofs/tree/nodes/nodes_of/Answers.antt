@@ -2,11 +2,13 @@ use Rattle.std.proofs.Common.{◌∙◌, ◌<◌, ◌≤◌, ℕ, List, map, ap,
 use Rattle.std.specs.List.{AllByRecursion}
 use Rattle.std.proofs.lemmas.List.{length-map}
 use Rattle.dts_tree.specs.declared.piece.Piece.{Piece}
+use Rattle.dts_tree.specs.declared.store.Span.{Span}
 use Rattle.dts_tree.specs.Inside.Below.{IsPieceBelow}
 use Rattle.dts_tree.specs.Inside.Kept.{nodes_kept}
 use Rattle.dts_tree.specs.Inside.Listing.{IsListing}
 use Rattle.dts_tree.specs.Inside.Numbered.{number_of}
 use Rattle.dts_tree.specs.Inside.Pieces.{piece_by}
+use Rattle.dts_tree.specs.Inside.Stored.{store_of}
 use Rattle.dts_tree.proofs.LayoutLemmas.{layout-inside}
 use Rattle.dts_tree.proofs.MadeLemmas.{pieces-below, kept-tree, outcome-known}
 use Rattle.dts_tree.proofs.tree.nodes.nodes_of.Goals as goal
@@ -28,14 +30,15 @@ invariant_of-result c =
     let pieces = c.args.pieces.items in
     let layout = c.in_ok-layout.layout in
     let n = length layout.order.items in
-    let same = c.in_ok-pieces.ensures.numbered ∙ ap (λ rs. map (piece_by (number_of text store.labels rs)) pieces) c.as_slice.ensures.value in
+    let same = c.in_ok-pieces.ensures.numbered ∙ ap (λ rs. map (piece_by (number_of text c.args.labels rs)) pieces) c.as_slice.ensures.value in
     record {
       few = c.requires.sound.few;
       earlier = c.requires.sound.earlier;
       layout = c.in_ok-layout.ensures;
-      listing = subst (λ (order : List ℕ). IsListing (map (λ e. e.0.0) store.properties) order c.in_ok-listing.listing.places.items c.in_ok-listing.listing.starts.items) c.as_slice-2.ensures.value c.in_ok-listing.ensures;
+      listing = subst (λ (order : List ℕ). IsListing (map (λ e. e.0.0) store.properties) order c.in_ok-listing.listing.places.items c.in_ok-listing.listing.starts.items) c.as_slice-2.ensures.value
+          (subst (λ (es : List ((ℕ × List ℕ) × Span)). IsListing (map (λ e. e.0.0) es) c.as_slice-2.result.now c.in_ok-listing.listing.places.items c.in_ok-listing.listing.starts.items) c.list.ensures c.in_ok-listing.ensures);
       below = subst (λ (ps : List (Piece ℕ)). AllByRecursion (IsPieceBelow n) ps) (sym same)
-          (pieces-below text pieces store c.requires.sound layout.order.items layout.ranks.items c.in_ok-layout.ensures pieces);
+          (pieces-below text pieces store c.args.labels c.requires.sound layout.order.items layout.ranks.items c.in_ok-layout.ensures pieces);
     }
 
 pub returns-clause-tree : goal.returns-clause-tree
@@ -44,7 +47,7 @@ returns-clause-tree c =
     let text = c.args.text.now in
     let pieces = c.args.pieces.items in
     let layout = c.in_ok-layout.layout in
-    let same = c.in_ok-pieces.ensures.numbered ∙ ap (λ rs. map (piece_by (number_of text store.labels rs)) pieces) c.as_slice.ensures.value in
-    outcome-known text pieces store (nodes_kept store c.in_ok-pieces.pieces.items layout.order.items) c.in_ok-pieces.ensures.known
+    let same = c.in_ok-pieces.ensures.numbered ∙ ap (λ rs. map (piece_by (number_of text c.args.labels rs)) pieces) c.as_slice.ensures.value in
+    outcome-known text pieces (store_of store c.args.labels) (nodes_kept store c.in_ok-pieces.pieces.items layout.order.items) c.in_ok-pieces.ensures.known
     (ap (λ ps. nodes_kept store ps layout.order.items) same
-    ∙ kept-tree text pieces store c.requires.sound layout.order.items layout.ranks.items c.in_ok-layout.ensures)
+    ∙ kept-tree text pieces store c.args.labels c.requires.sound layout.order.items layout.ranks.items c.in_ok-layout.ensures)

@@ -1,8 +1,7 @@
-use Rattle.std.proofs.Common.{◌∙◌, ◌+◌, ◌++◌, ◌∷◌, [], cond, Some, ap, sym, take}
+use Rattle.std.proofs.Common.{◌∙◌, ◌++◌, ◌∷◌, [], cond, Some, ap, sym, take}
 use Rattle.std.proofs.Math.Seq.{take-append_seam}
-use Rattle.std.specs.BTreeMap.{btree_map_len, get}
+use Rattle.std.specs.BTreeMap.{get}
 use Rattle.std.specs.Ordering.{is_eq}
-use Rattle.std.specs.Prelude.{is_some}
 use Rattle.ordered_map.specs.Entries.{keep_entry, place_of}
 use Rattle.ordered_map.proofs.EntryLemmas.{found-there, found-missing, found-last, keep-there, keep-new, place-inside, place-new, placed-push}
 use Rattle.ordered_map.proofs.ordered_map.OrderedMap.keep.Goals as goal
@@ -58,5 +57,4 @@ invariant_of-self-else-place-end g c =
     let last = sym c.in-Ok.ensures.place ∙ found-last (g.K.PartialEq.eq c.args.key) es (get g.K.Ord.cmp c.self.inside.places c.args.key) c.in-Ok.place c.len-end.result c.in-Ok.ensures.place (c.self.invariant.found c.args.key) end c.if-place-end.false in
     rw c.in_ok-push.ensures.items
     (placed-push g.K.PartialEq.eq g.K.Ord.cmp g.met.K.Eq.laws g.met.K.Ord.matches_eq es places c.place_or.new.places c.args.key c.args.value c.self.invariant absent
-    (λ q. c.in-Ok.ensures.found q ∙ ap (λ n. cond (is_eq (g.K.Ord.cmp c.args.key q)) (Some n) (get g.K.Ord.cmp places q)) last)
-    (c.in-Ok.ensures.len ∙ ap (λ o. btree_map_len places + cond (is_some o) 0 1) (c.self.invariant.found c.args.key ∙ absent)))
+    (λ q. c.in-Ok.ensures.found q ∙ ap (λ n. cond (is_eq (g.K.Ord.cmp c.args.key q)) (Some n) (get g.K.Ord.cmp places q)) last))

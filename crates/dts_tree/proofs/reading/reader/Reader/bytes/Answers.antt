@@ -25,8 +25,8 @@ returns-in_ok-push_bytes-in-Word-clause-ok c =
     let word = c.args.inner.now in
     let form : is_bytes word ≡ true = sym c.is_bytes.ensures ∙ c.if-not-is_bytes.false in
     let bytes : c.as_slice.result.now ≡ bytes_of word = c.as_slice.ensures.value ∙ c.in_ok-bytes-in-Word.ensures in
-    rw (c.in-Word.is, form) (went_more text r c.requires.ready.kept c.push_bytes.new.pieces (map Byte (bytes_of word)) (spot.InBytes c.args.name) _ _
+    rw (c.in-Word.is, form) (went_more text _ _ _ r c.requires.ready c.push_bytes.new.pieces (map Byte (bytes_of word)) (spot.InBytes c.args.name) _ _
     (c.in_ok-push_bytes-in-Word.ensures ∙ ap (λ bs. r.pieces.items ++ map Byte bs) bytes)
     (fold-bytes-by (label_at text) _ (bytes_of word))
     (sym (ap (λ ls. labels_kept text r.pieces.items ++ ls) (labels-bytes text (bytes_of word)) ∙ append-nil (labels_kept text r.pieces.items)))
-    c.requires.spot refl)
+    _ c.requires.spot refl)

@@ -24,5 +24,5 @@ returns-in_ok-push-in-Some-clause-ok c =
         owners = held.owners;
         ranges = held.ranges;
       };
-      counted = λ n h. (omega (arith, h.0, c.requires.spot), omega (arith, h.1, c.requires.spot));
+      counted = (omega (arith, c.requires.ready.counted.0, c.requires.ready.token.0, c.requires.spot), omega (arith, c.requires.ready.counted.1, c.requires.ready.token.0, c.requires.spot), omega (arith, c.requires.ready.counted.2, c.requires.ready.token.0, c.requires.spot));
     }

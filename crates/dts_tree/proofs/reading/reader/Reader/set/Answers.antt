@@ -1,9 +1,9 @@
 use Rattle.std.proofs.Common.{◌≡◌, ◌∙◌, ℕ, List, ap, length, refl, arith}
 use Rattle.ordered_map.specs.Entries.{insert_entry}
-use Rattle.name_map.specs.NameEntries.{same_name}
+use Rattle.name_map.specs.NameEntries.{same_name, size_of}
 use Rattle.dts_tree.specs.declared.reading.spot.Spot.TheVariants as spot
 use Rattle.dts_tree.specs.Inside.Reader.{name_in}
-use Rattle.dts_tree.proofs.ReaderLemmas.{view_set_is, held_set, length-insert}
+use Rattle.dts_tree.proofs.ReaderLemmas.{view_set_is, held_set, size-insert, name-length}
 use Rattle.dts_tree.proofs.reading.reader.Reader.set.Goals as goal
 
 -- where the pieces end
@@ -30,5 +30,9 @@ returns-clause-kept c =
 pub returns-clause-counted : goal.returns-clause-counted
 returns-clause-counted c = λ n h.
     let r = c.args.self.now in
-    let more = length-insert r.store.properties (c.here-node.result, name_in c.args.text.now c.args.name.now) (record { from = r.from; to = length r.pieces.items }) in
-    (omega (arith, h.0, c.requires.spot), omega (arith, h.1, c.requires.spot, more, ap length (put c)))
+    let word = name_in c.args.text.now c.args.name.now in
+    let more = size-insert r.store.properties (c.here-node.result, word) (record { from = r.from; to = length r.pieces.items }) in
+    (omega (arith, h.0, c.requires.spot), omega (arith, h.1, c.requires.spot, more, name-length c.args.text.now c.args.name.now, ap size_of (put c)), omega (arith, h.2, c.requires.spot))
+
+pub insert-requires : goal.insert-requires
+insert-requires c = omega (arith, c.requires.room, ap length c.slice_of.ensures, name-length c.args.text.now c.args.name.now)

@@ -1,10 +1,10 @@
-use Rattle.std.proofs.Common.{refl}
+use Rattle.std.proofs.Common.{refl, arith}
 use Rattle.std.proofs.lemmas.Result.{on_ok_weaker, IfErr-weaker}
 use Rattle.dts_tree.proofs.TakeLemmas.{is_inner, went_token, fault_token}
 use Rattle.dts_tree.proofs.reading.reader.Reader.take.Goals as goal
 
 pub start-requires-clause-ready : goal.start-requires-clause-ready
-start-requires-clause-ready c = record { kept = c.requires.kept; token = c.requires.token; inner = is_inner c.args.text.now c.args.token.now c.symbol_of-symbol.result c.inner_of-inner.result.now c.symbol_of-symbol.ensures c.inner_of-inner.ensures }
+start-requires-clause-ready c = record { kept = c.requires.kept; token = c.requires.token; fits = omega (arith, c.requires.token.1, c.requires.short); counted = c.requires.counted; inner = is_inner c.args.text.now c.args.token.now c.symbol_of-symbol.result c.inner_of-inner.result.now c.symbol_of-symbol.ensures c.inner_of-inner.ensures }
 
 pub returns-in-Start : goal.returns-in-Start
 returns-in-Start c = record {
@@ -13,7 +13,7 @@ returns-in-Start c = record {
 }
 
 pub semicolon-requires-clause-ready : goal.semicolon-requires-clause-ready
-semicolon-requires-clause-ready c = record { kept = c.requires.kept; token = c.requires.token; inner = is_inner c.args.text.now c.args.token.now c.symbol_of-symbol.result c.inner_of-inner.result.now c.symbol_of-symbol.ensures c.inner_of-inner.ensures }
+semicolon-requires-clause-ready c = record { kept = c.requires.kept; token = c.requires.token; fits = omega (arith, c.requires.token.1, c.requires.short); counted = c.requires.counted; inner = is_inner c.args.text.now c.args.token.now c.symbol_of-symbol.result c.inner_of-inner.result.now c.symbol_of-symbol.ensures c.inner_of-inner.ensures }
 
 pub returns-in-Versioned : goal.returns-in-Versioned
 returns-in-Versioned c = record {
@@ -22,7 +22,7 @@ returns-in-Versioned c = record {
 }
 
 pub inside-requires-clause-ready : goal.inside-requires-clause-ready
-inside-requires-clause-ready c = record { kept = c.requires.kept; token = c.requires.token; inner = is_inner c.args.text.now c.args.token.now c.symbol_of-symbol.result c.inner_of-inner.result.now c.symbol_of-symbol.ensures c.inner_of-inner.ensures }
+inside-requires-clause-ready c = record { kept = c.requires.kept; token = c.requires.token; fits = omega (arith, c.requires.token.1, c.requires.short); counted = c.requires.counted; inner = is_inner c.args.text.now c.args.token.now c.symbol_of-symbol.result c.inner_of-inner.result.now c.symbol_of-symbol.ensures c.inner_of-inner.ensures }
 
 pub returns-in-Inside : goal.returns-in-Inside
 returns-in-Inside c = record {
@@ -31,7 +31,7 @@ returns-in-Inside c = record {
 }
 
 pub slashed-requires-clause-ready : goal.slashed-requires-clause-ready
-slashed-requires-clause-ready c = record { kept = c.requires.kept; token = c.requires.token; inner = is_inner c.args.text.now c.args.token.now c.symbol_of-symbol.result c.inner_of-inner.result.now c.symbol_of-symbol.ensures c.inner_of-inner.ensures }
+slashed-requires-clause-ready c = record { kept = c.requires.kept; token = c.requires.token; fits = omega (arith, c.requires.token.1, c.requires.short); counted = c.requires.counted; inner = is_inner c.args.text.now c.args.token.now c.symbol_of-symbol.result c.inner_of-inner.result.now c.symbol_of-symbol.ensures c.inner_of-inner.ensures }
 
 pub returns-in-Slashed : goal.returns-in-Slashed
 returns-in-Slashed c = record {
@@ -40,7 +40,7 @@ returns-in-Slashed c = record {
 }
 
 pub brace-requires-clause-ready : goal.brace-requires-clause-ready
-brace-requires-clause-ready c = record { kept = c.requires.kept; token = c.requires.token; inner = is_inner c.args.text.now c.args.token.now c.symbol_of-symbol.result c.inner_of-inner.result.now c.symbol_of-symbol.ensures c.inner_of-inner.ensures }
+brace-requires-clause-ready c = record { kept = c.requires.kept; token = c.requires.token; fits = omega (arith, c.requires.token.1, c.requires.short); counted = c.requires.counted; inner = is_inner c.args.text.now c.args.token.now c.symbol_of-symbol.result c.inner_of-inner.result.now c.symbol_of-symbol.ensures c.inner_of-inner.ensures }
 
 pub returns-in-Added : goal.returns-in-Added
 returns-in-Added c = record {
@@ -49,7 +49,7 @@ returns-in-Added c = record {
 }
 
 pub semicolon-requires-in-Closed-clause-ready : goal.semicolon-requires-in-Closed-clause-ready
-semicolon-requires-in-Closed-clause-ready c = record { kept = c.requires.kept; token = c.requires.token; inner = is_inner c.args.text.now c.args.token.now c.symbol_of-symbol.result c.inner_of-inner.result.now c.symbol_of-symbol.ensures c.inner_of-inner.ensures }
+semicolon-requires-in-Closed-clause-ready c = record { kept = c.requires.kept; token = c.requires.token; fits = omega (arith, c.requires.token.1, c.requires.short); counted = c.requires.counted; inner = is_inner c.args.text.now c.args.token.now c.symbol_of-symbol.result c.inner_of-inner.result.now c.symbol_of-symbol.ensures c.inner_of-inner.ensures }
 
 pub returns-in-Closed : goal.returns-in-Closed
 returns-in-Closed c = record {
@@ -58,7 +58,7 @@ returns-in-Closed c = record {
 }
 
 pub worded-requires-clause-ready : goal.worded-requires-clause-ready
-worded-requires-clause-ready c = record { kept = c.requires.kept; token = c.requires.token; inner = is_inner c.args.text.now c.args.token.now c.symbol_of-symbol.result c.inner_of-inner.result.now c.symbol_of-symbol.ensures c.inner_of-inner.ensures }
+worded-requires-clause-ready c = record { kept = c.requires.kept; token = c.requires.token; fits = omega (arith, c.requires.token.1, c.requires.short); counted = c.requires.counted; inner = is_inner c.args.text.now c.args.token.now c.symbol_of-symbol.result c.inner_of-inner.result.now c.symbol_of-symbol.ensures c.inner_of-inner.ensures }
 
 pub returns-in-Worded : goal.returns-in-Worded
 returns-in-Worded c = record {
@@ -67,7 +67,7 @@ returns-in-Worded c = record {
 }
 
 pub behind-requires-clause-ready : goal.behind-requires-clause-ready
-behind-requires-clause-ready c = record { kept = c.requires.kept; token = c.requires.token; inner = is_inner c.args.text.now c.args.token.now c.symbol_of-symbol.result c.inner_of-inner.result.now c.symbol_of-symbol.ensures c.inner_of-inner.ensures }
+behind-requires-clause-ready c = record { kept = c.requires.kept; token = c.requires.token; fits = omega (arith, c.requires.token.1, c.requires.short); counted = c.requires.counted; inner = is_inner c.args.text.now c.args.token.now c.symbol_of-symbol.result c.inner_of-inner.result.now c.symbol_of-symbol.ensures c.inner_of-inner.ensures }
 
 pub returns-in-Behind : goal.returns-in-Behind
 returns-in-Behind c = record {
@@ -76,7 +76,7 @@ returns-in-Behind c = record {
 }
 
 pub named-requires-clause-ready : goal.named-requires-clause-ready
-named-requires-clause-ready c = record { kept = c.requires.kept; token = c.requires.token; inner = is_inner c.args.text.now c.args.token.now c.symbol_of-symbol.result c.inner_of-inner.result.now c.symbol_of-symbol.ensures c.inner_of-inner.ensures }
+named-requires-clause-ready c = record { kept = c.requires.kept; token = c.requires.token; fits = omega (arith, c.requires.token.1, c.requires.short); counted = c.requires.counted; inner = is_inner c.args.text.now c.args.token.now c.symbol_of-symbol.result c.inner_of-inner.result.now c.symbol_of-symbol.ensures c.inner_of-inner.ensures }
 
 pub returns-in-Named : goal.returns-in-Named
 returns-in-Named c = record {
@@ -85,7 +85,7 @@ returns-in-Named c = record {
 }
 
 pub valued-requires-clause-ready : goal.valued-requires-clause-ready
-valued-requires-clause-ready c = record { kept = c.requires.kept; token = c.requires.token; inner = is_inner c.args.text.now c.args.token.now c.symbol_of-symbol.result c.inner_of-inner.result.now c.symbol_of-symbol.ensures c.inner_of-inner.ensures }
+valued-requires-clause-ready c = record { kept = c.requires.kept; token = c.requires.token; fits = omega (arith, c.requires.token.1, c.requires.short); counted = c.requires.counted; inner = is_inner c.args.text.now c.args.token.now c.symbol_of-symbol.result c.inner_of-inner.result.now c.symbol_of-symbol.ensures c.inner_of-inner.ensures }
 
 pub returns-in-Valued : goal.returns-in-Valued
 returns-in-Valued c = record {
@@ -94,7 +94,7 @@ returns-in-Valued c = record {
 }
 
 pub cells-requires-clause-ready : goal.cells-requires-clause-ready
-cells-requires-clause-ready c = record { kept = c.requires.kept; token = c.requires.token; inner = is_inner c.args.text.now c.args.token.now c.symbol_of-symbol.result c.inner_of-inner.result.now c.symbol_of-symbol.ensures c.inner_of-inner.ensures }
+cells-requires-clause-ready c = record { kept = c.requires.kept; token = c.requires.token; fits = omega (arith, c.requires.token.1, c.requires.short); counted = c.requires.counted; inner = is_inner c.args.text.now c.args.token.now c.symbol_of-symbol.result c.inner_of-inner.result.now c.symbol_of-symbol.ensures c.inner_of-inner.ensures }
 
 pub returns-in-InCells : goal.returns-in-InCells
 returns-in-InCells c = record {
@@ -103,7 +103,7 @@ returns-in-InCells c = record {
 }
 
 pub bytes-requires-clause-ready : goal.bytes-requires-clause-ready
-bytes-requires-clause-ready c = record { kept = c.requires.kept; token = c.requires.token; inner = is_inner c.args.text.now c.args.token.now c.symbol_of-symbol.result c.inner_of-inner.result.now c.symbol_of-symbol.ensures c.inner_of-inner.ensures }
+bytes-requires-clause-ready c = record { kept = c.requires.kept; token = c.requires.token; fits = omega (arith, c.requires.token.1, c.requires.short); counted = c.requires.counted; inner = is_inner c.args.text.now c.args.token.now c.symbol_of-symbol.result c.inner_of-inner.result.now c.symbol_of-symbol.ensures c.inner_of-inner.ensures }
 
 pub returns-in-InBytes : goal.returns-in-InBytes
 returns-in-InBytes c = record {
@@ -112,7 +112,7 @@ returns-in-InBytes c = record {
 }
 
 pub parted-requires-clause-ready : goal.parted-requires-clause-ready
-parted-requires-clause-ready c = record { kept = c.requires.kept; token = c.requires.token; inner = is_inner c.args.text.now c.args.token.now c.symbol_of-symbol.result c.inner_of-inner.result.now c.symbol_of-symbol.ensures c.inner_of-inner.ensures }
+parted-requires-clause-ready c = record { kept = c.requires.kept; token = c.requires.token; fits = omega (arith, c.requires.token.1, c.requires.short); counted = c.requires.counted; inner = is_inner c.args.text.now c.args.token.now c.symbol_of-symbol.result c.inner_of-inner.result.now c.symbol_of-symbol.ensures c.inner_of-inner.ensures }
 
 pub returns-in-Parted : goal.returns-in-Parted
 returns-in-Parted c = record {
