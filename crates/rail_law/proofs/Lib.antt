@@ -1,0 +1,13 @@
+pub mod Registers
+pub mod WorkedTies
+pub mod WorkedBoardTies
+pub mod WorkedLeast
+pub mod WorkedWays
+pub mod WorkedAdmissible
+pub mod WorkedLaws
+pub mod Admissible
+pub mod LeastValues
+pub mod Members
+pub mod LawByTies
+pub mod NextStep
+pub mod WayArrives

@@ -1,0 +1,6 @@
+pub mod Ties
+pub mod BoardTies
+pub mod Law
+pub mod Least
+pub mod Moves
+pub mod Way
