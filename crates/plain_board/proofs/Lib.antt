@@ -1,4 +1,36 @@
-pub mod Appended
 pub mod Enumerated
-pub mod WorkedLines
-pub mod WorkedRows
+pub mod Played
+pub mod PlayedBoards
+pub mod Rows
+pub mod Throughout
+pub mod Untied
+pub mod AloneLeast
+pub mod Run
+pub mod ValuesTo
+pub mod AlonePath
+pub mod MovedAlone
+pub mod RailMoves
+pub mod Grown
+pub mod Requests
+pub mod SetMoves
+pub mod KeptUse
+pub mod ChangedRequest
+pub mod OwnHandle
+pub mod KeptSet
+pub mod KeptOpen
+pub mod CallLaws
+pub mod TwoRails
+mod WorkedCoupled
+mod WorkedDemo
+mod WorkedEvents
+mod WorkedFew
+mod WorkedHandles
+mod WorkedHistory
+mod WorkedInv
+mod WorkedKept
+mod WorkedLaw
+mod WorkedLoads
+mod WorkedSeen
+mod WorkedSupplied
+mod WorkedSuspended
+mod WorkedUntied

@@ -1,18 +1,24 @@
 -- The counts of a rail, added up from the lists.
-use Rattle.std.specs.Prelude.{ℕ, ◌+◌, ◌==◌, ◌&&◌, Bool, false, Option, Some, None, sum_by, count_by, slice_get, unwrap_or, if◌then◌else◌}
+use Rattle.std.specs.Prelude.{ℕ, ◌+◌, ◌==◌, ◌&&◌, Bool, false, List, Option, Some, None, sum_by, count_by, slice_get, unwrap_or, if◌then◌else◌}
 use Rattle.board.specs.declared.board.Board.{Board}
+use Rattle.board.specs.declared.rail.Rail.{Rail}
 use Rattle.board.specs.declared.rail_id.RailId.{RailId}
 use Rattle.board.specs.Rail.{is_on}
 use Rattle.plain_board.specs.declared.handle_row.HandleRow.{HandleRow}
 use Rattle.plain_board.specs.declared.plain.Plain.{Plain}
-
--- what one handle adds to the enables of rail i
-abbrev pub enables_by : ℕ → RailId × HandleRow → ℕ
-enables_by i row = if row.0.0 == i then row.1.enables else 0
+use Rattle.plain_board.specs.Handles.{rows_on}
 
 -- the enables of all handles on rail i
 abbrev pub enables : Plain → ℕ → ℕ
-enables plain i = sum_by (enables_by i) plain.handles
+enables plain i = sum_by (λ row. row.enables) (rows_on plain.handles i)
+
+-- what a handle draws: its load, while it has the rail enabled
+abbrev pub drawn : HandleRow → ℕ
+drawn row = if row.enables == 0 then 0 else row.load
+
+-- what a rail with these handles carries: the load that no consumer tells, and what they draw
+abbrev pub load_sum : Rail → List HandleRow → ℕ
+load_sum rail rows = rail.limits.system_load + sum_by drawn rows
 
 -- rail i is held on
 abbrev pub is_held : Plain → ℕ → Bool

@@ -2,14 +2,13 @@
 use Rattle.std.specs.Prelude.{ℕ, ◌≡◌, ◌+◌, ◌<◌, ◌==◌, ◌⊎◌, nat_lt, Bool, true, false, List, [], ◌∷◌, ◌++◌, take, length, count_by, filter, All, Option, Some, None, if◌then◌else◌}
 use Rattle.board.specs.declared.board.Board.{Board}
 use Rattle.board.specs.declared.write.Write.{Write}
-use Rattle.plain_board.specs.declared.answer.Answer.{Answer}
-use Rattle.plain_board.specs.declared.answer.Answer.TheVariants.{Fault}
-use Rattle.plain_board.specs.declared.call.Call.{Call}
-use Rattle.plain_board.specs.declared.call.Call.TheVariants.{Open, Set, Get}
+use Rattle.rail_law.specs.Moves.{Move, writes_of}
+use Rattle.rows.specs.declared.answer.Answer.{Answer}
+use Rattle.rows.specs.declared.answer.Answer.TheVariants.{Fault}
+use Rattle.rows.specs.declared.row.Row.{Row}
+use Rattle.rows.specs.Row.{NamesRail}
 use Rattle.plain_board.specs.declared.plain.Plain.{Plain}
-use Rattle.plain_board.specs.declared.row.Row.{Row}
 use Rattle.plain_board.specs.Answer.{answer, plan}
-use Rattle.plain_board.specs.Moves.{Move, writes_of}
 
 -- how many moves an answer says were made before one was refused
 abbrev pub stop_of : Answer → Option ℕ
@@ -46,12 +45,6 @@ abbrev pub replay : Board → Plain → List Row → Plain
 replay board plain [] = plain
 replay board plain (row ∷ rows) = replay board (after board plain row) rows
 
--- a rail that a call names is a rail of the board
-abbrev pub NamesRail : Board → Call → Type 0
-NamesRail board (Open handle rail exclusive) = rail.0 < length board.rails
-NamesRail board (Set handle lo hi) = Unit {0}
-NamesRail board (Get handle) = Unit {0}
-
 -- the rows of a worker
 abbrev pub rows_of : ℕ → List Row → List Row
 rows_of worker rows = filter (λ row. row.worker == worker) rows
@@ -78,6 +71,16 @@ IsLegal board plain rows = legal_after board plain [] rows
 -- no row has kept its writes
 abbrev pub KeepsNone : List Row → Type 0
 KeepsNone rows = All (λ row. row.writes ≡ []) rows
+
+-- each row has kept the writes of the moves that it made
+abbrev pub KeepsEach : Board → Plain → List Row → Type 0
+KeepsEach board plain [] = Unit {0}
+KeepsEach board plain (row ∷ rows) = (row.writes ≡ writes_of board (moves_of board plain row)) × KeepsEach board (after board plain row) rows
+
+-- whether the rows keep their writes: each does, or none
+abbrev pub Keeps : Bool → Board → Plain → List Row → Type 0
+Keeps true board plain rows = KeepsEach board plain rows
+Keeps false board plain rows = KeepsNone rows
 
 -- the register writes of the moves that a worker's rows made, whether or not the rows have them
 abbrev pub moved : Board → Plain → ℕ → List Row → List Write

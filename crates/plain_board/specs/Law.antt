@@ -1,20 +1,11 @@
--- What holds after every single register write.
-use Rattle.std.specs.Prelude.{ℕ, List, [], ◌∷◌, All}
+-- What holds before a history, after every single register write of it, and at its end.
+use Rattle.std.specs.Prelude.{List, [], ◌∷◌, ℕ}
 use Rattle.board.specs.declared.board.Board.{Board}
-use Rattle.board.specs.declared.rail.Rail.{Rail}
-use Rattle.board.specs.Rail.{uv, IsAllowed}
+use Rattle.rail_law.specs.Law.{Law}
+use Rattle.rail_law.specs.Moves.{Move, field_of_move, written}
+use Rattle.rows.specs.declared.row.Row.{Row}
 use Rattle.plain_board.specs.declared.plain.Plain.{Plain}
-use Rattle.plain_board.specs.declared.row.Row.{Row}
 use Rattle.plain_board.specs.History.{moves_of, after}
-use Rattle.plain_board.specs.Moves.{Move, field_of_move, written}
-
--- the rail stands at a value that it may stand at
-abbrev pub StandsWell : Rail → List (List ℕ) → Type 0
-StandsWell rail regs = IsAllowed rail (uv rail regs)
-
--- the law: each rail does
-abbrev pub Law : Board → List (List ℕ) → Type 0
-Law board regs = All (λ rail. StandsWell rail regs) board.rails
 
 -- a fact of the registers holds before these moves, and after each of them
 abbrev pub Throughout : (List (List ℕ) → Type 0) → Board → List (List ℕ) → List Move → Type 0

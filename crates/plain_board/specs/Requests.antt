@@ -1,37 +1,40 @@
--- Which values meet the requests on a rail.
-use Rattle.std.specs.Prelude.{ℕ, ◌==◌, ◌&&◌, Bool, true, not, nat_le, List, Option, Some, None, filter, filter_map, find, if◌then◌else◌, bytes_eq}
+-- What the handles ask of a rail's value.
+use Rattle.std.specs.Prelude.{ℕ, ◌==◌, ◌&&◌, Bool, nat_le, List, ◌∷◌, filter_map, map, slice_index, Option, option_map, if◌then◌else◌}
 use Rattle.std.specs.List.{list_all}
-use Rattle.board.specs.declared.rail_id.RailId.{RailId}
-use Rattle.board.specs.declared.rail.Rail.{Rail}
-use Rattle.board.specs.Rail.{allowed}
-use Rattle.plain_board.specs.declared.handle_row.HandleRow.{HandleRow}
+use Rattle.board_graph.specs.Order.{is_taken}
+use Rattle.board_graph.specs.Sets.{rails_of, movers}
+use Rattle.board.specs.declared.board.Board.{Board}
+use Rattle.rail_law.specs.BoardTies.{standing_values}
+use Rattle.rail_law.specs.Least.{least_of}
 use Rattle.plain_board.specs.declared.plain.Plain.{Plain}
-
--- the row is that of the worker's handle of this name
-abbrev pub is_own : ℕ → List ℕ → RailId × HandleRow → Bool
-is_own worker name row = row.1.worker == worker && bytes_eq row.1.handle.bytes name
-
--- the worker's open handle of this name, with its rail
-abbrev pub own_row : Plain → ℕ → List ℕ → Option (RailId × HandleRow)
-own_row plain worker name = find (is_own worker name) plain.handles
-
--- what a row asks of rail i, unless it is that of the worker's handle of this name
-abbrev pub asks : ℕ → List ℕ → ℕ → RailId × HandleRow → Option (ℕ × ℕ)
-asks worker name i row = if row.0.0 == i && not (is_own worker name row) then row.1.request else None
-
--- the standing requests of all other handles on rail i
-abbrev pub others : Plain → ℕ → List ℕ → ℕ → List (ℕ × ℕ)
-others plain worker name i = filter_map (asks worker name i) plain.handles
+use Rattle.plain_board.specs.Handles.{Entry, rows_on, without_open}
 
 -- the value meets the request
 abbrev pub meets : ℕ → ℕ × ℕ → Bool
 meets uv request = nat_le request.0 uv && nat_le uv request.1
 
--- the value meets the request, where there is one
-abbrev pub meets_any : ℕ → Option (ℕ × ℕ) → Bool
-meets_any uv None = true
-meets_any uv (Some request) = meets uv request
+-- the requests that stand on rail i
+abbrev pub requests_on : List Entry → ℕ → List (ℕ × ℕ)
+requests_on handles i = filter_map (λ row. row.request) (rows_on handles i)
 
--- the values that the rail may stand at, and that meet each of these requests
-abbrev pub admissible : Rail → List (ℕ × ℕ) → List ℕ
-admissible rail requests = filter (λ uv. list_all (meets uv) requests) (allowed rail)
+-- what is asked of rail i once the worker's handle of this name on rail r asks anew: its new request in
+-- place of its old one, and the requests of all other handles
+abbrev pub asked : List Entry → ℕ → List ℕ → ℕ → ℕ × ℕ → ℕ → List (ℕ × ℕ)
+asked handles worker name r request i =
+    let others = requests_on (without_open handles worker name) i in if i == r then request ∷ others else others
+
+-- the least lawful values that meet all requests, where there are any: those of the rails that move with rail r
+abbrev pub least_for : Board → Plain → ℕ → List ℕ → ℕ → ℕ × ℕ → Option (List ℕ)
+least_for board plain worker name r request =
+    least_of board (standing_values board plain.regs) (λ i uv. list_all (meets uv) (asked plain.handles worker name r request i)) r
+
+-- the rails that move with rail r at these values, and all others where they stand
+abbrev pub with_moved : Board → List ℕ → ℕ → List ℕ → List ℕ
+with_moved board now r least =
+    let moving = movers board.graph r in
+    map (λ i. if is_taken moving i then slice_index least i else slice_index now i) (rails_of board.graph)
+
+-- the values to which such a request takes the board's rails, where it can be met
+abbrev pub goal_of : Board → Plain → ℕ → List ℕ → ℕ → ℕ × ℕ → Option (List ℕ)
+goal_of board plain worker name r request =
+    option_map (with_moved board (standing_values board plain.regs) r) (least_for board plain worker name r request)

@@ -1,18 +1,14 @@
-//! The plain board: what every call answers on a board without threads, and the text of what was answered.
+//! The plain board: what every call is answered on a board without threads, and where its rails stand after it.
 #![tactic(auto)]
 
-mod answer;
-mod call;
 mod counts;
+mod fields;
 mod handle_row;
+pub mod laws;
 mod plain;
-mod row;
 mod summary_text;
-mod text;
 
-pub use answer::Answer;
-pub use call::Call;
+pub use fields::hold_fields;
 pub use handle_row::HandleRow;
 pub use plain::Plain;
-pub use row::Row;
 pub use summary_text::summary;

@@ -1,33 +1,15 @@
-ghost use Rattle.std.specs.Prelude.{◌≡◌, ◌<◌, ◌^◌, ◌++◌, ◌∷◌, [], length, slice_get, codes, decimal, flat_map, if◌then◌else◌, IfOk, OnOk, OnErr, string_bytes};
+ghost use Rattle.std.specs.Prelude.{◌≡◌, ◌<◌, ◌^◌, ◌++◌, ◌∷◌, [], length, slice_get, codes, decimal, flat_map, IfOk, OnOk, OnErr, string_bytes};
 ghost use Rattle.std.specs.List.{enumerate_from};
 ghost use Rattle.board.specs.Valid.{IsValid};
 ghost use Rattle.plain_board.specs.Inv.{Inv};
-ghost use Rattle.plain_board.specs.Text.{ended, spaced, mode_text, rail_text, summary_text};
+ghost use Rattle.rows.specs.Words.{ended, spaced};
+ghost use Rattle.plain_board.specs.Text.{rail_text, summary_text};
 
 use crate::counts::{enables, use_count};
 use crate::plain::Plain;
 use board::{Board, Rail, RailId};
-use load_modes::Mode;
+use rows::{mode_text, on_text};
 use std::alloc::{AllocError, Global};
-
-/// Whether a rail is on, in words.
-fn state_text(on: bool) -> &'static str
-    ensures { result.now ≡ (if on then codes "on" else codes "off") }
-{
-    if on { "on" } else { "off" }
-}
-
-/// A mode, in a word.
-fn mode_text(mode: Mode) -> &'static str
-    ensures { result.now ≡ mode_text mode }
-{
-    match mode {
-        Mode::Fast => "fast",
-        Mode::Normal => "normal",
-        Mode::Idle => "idle",
-        Mode::Standby => "standby",
-    }
-}
 
 /// The line of a rail.
 fn rail_text(
@@ -44,7 +26,7 @@ fn rail_text(
     ensures { IfOk result (λ text. string_bytes text ≡ rail_text board.now plain.now (id.0, rail.now)) }
 {
     let name = &rail.name;
-    let state = state_text(rail.is_on(&plain.regs));
+    let state = on_text(rail.is_on(&plain.regs));
     let uv = rail.uv(&plain.regs);
     let mode = mode_text(rail.mode(&plain.regs));
     let used = use_count(board, plain, id);

@@ -1,7 +1,7 @@
 -- The first fault inside the worker and after it, and the session with one worker.
 use Rattle.std.proofs.Common.{ℕ, ◌≡◌, ◌≢◌, ◌+◌, ◌≤◌, List, [], ◌∷◌, ◌++◌, length, sym, refl, ap, ◌∙◌, subst, arith, append_assoc, length-append}
 use Rattle.std.proofs.lemmas.List.{map-append, length-map}
-use Rattle.plain_board.specs.declared.call.Call.{Call}
+use Rattle.rows.specs.declared.call.Call.{Call}
 use Rattle.regulator_main.specs.declared.fault.SessionKind.{SessionKind}
 use Rattle.regulator_main.specs.declared.fault.SessionKind.TheVariants.{BadSession}
 use Rattle.regulator_main.specs.Frame.{end_line, IsScript, call_line}

@@ -2,7 +2,7 @@
 use Rattle.std.proofs.Common.{ℕ, ◌≡◌, ◌+◌, List, [], ◌∷◌, ◌++◌, map, length, take, All, sym, refl, ap, ◌∙◌, subst, arith, append_assoc, length-append}
 use Rattle.std.proofs.lemmas.List.{take_at, take_all}
 use Rattle.std.proofs.lemmas.List.Elements.{All-nil, All-cons}
-use Rattle.plain_board.specs.declared.call.Call.{Call}
+use Rattle.rows.specs.declared.call.Call.{Call}
 use Rattle.regulator_main.specs.declared.fault.SessionKind.{SessionKind}
 use Rattle.regulator_main.specs.declared.fault.SessionKind.TheVariants.{BadSession}
 use Rattle.regulator_main.specs.Frame.{IsSetup, Frame, frame_lines, HasNoEnd, IsFrame, call_line, AreBuilt, AreShort, frame_of, IsBuilt, IsWithinLimits, Begins}

@@ -5,7 +5,8 @@ use Rattle.std.specs.List.{list_all}
 use Rattle.std.proofs.lemmas.List.{take_more}
 use Rattle.std.proofs.lemmas.List.Folds.{list_all-append}
 use Rattle.std.proofs.lemmas.List.Elements.{filter_map-append}
-use Rattle.plain_board.specs.Requests.{meets, meets_any}
+use Rattle.plain_board.specs.Requests.{meets}
+use Rattle.regulator_main.specs.Inside.Asked.{meets_any}
 
 and_assoc : (a b c : Bool) → ((a && b) && c) ≡ (a && (b && c))
 and_assoc true b c = refl

@@ -5,8 +5,8 @@ use Rattle.std.proofs.lemmas.List.{append_cancel_left, append_cancel_right}
 use Rattle.std.proofs.lemmas.List.Elements.{All-head, All-tail}
 use Rattle.arrayvec.specs.ArrayString.{ArrayString}
 use Rattle.board.specs.declared.rail_id.RailId.{RailId}
-use Rattle.plain_board.specs.declared.call.Call.{Call}
-use Rattle.plain_board.specs.declared.call.Call.TheVariants.{Open, Set, Get}
+use Rattle.rows.specs.declared.call.Call.{Call}
+use Rattle.rows.specs.declared.call.Call.TheVariants.{Open}
 use Rattle.regulator_main.specs.Frame.{call_line, IsHandleName, IsScript, Uses}
 
 -- what stands after `set ` and the name
@@ -21,8 +21,7 @@ open_name line name (Open handle rail exclusive) read script same =
     let spelled : line ≡ codes "open " ++ (handle.bytes ++ codes " core") = rw script.2 at same in
     let ends : handle.bytes ++ codes " core" ≡ name ++ codes " core" = cc in
     subst IsHandleName (append_cancel_right handle.bytes name (codes " core") ends) script.0
-open_name line name (Set handle lo hi) read script same = absurd script
-open_name line name (Get handle) read script same = absurd script
+open_name line name call read script same = absurd script
 
 -- two lines that open handles are equal only if the names are
 open_same : (h h' : ArrayString) (rail rail' : RailId) (exclusive exclusive' : Bool) → exclusive ≡ false → exclusive' ≡ false → call_line (Open h rail exclusive) ≡ call_line (Open h' rail' exclusive') → h.bytes ≡ h'.bytes
@@ -42,11 +41,7 @@ used name line (call ∷ calls) (b ∷ before) more uses same =
 -- what goes on with a script is a call on its handle
 pub next_use : (line : List ℕ) (handle : ArrayString) (rail : RailId) (exclusive : Bool) (script calls : List Call) (more : List (List ℕ)) → slice_get script 0 ≡ Some (Open handle rail exclusive) → IsScript script → IsScript calls → map call_line calls ≡ map call_line script ++ line ∷ more → (call : Call) × Uses handle.bytes call × (line ≡ call_line call)
 next_use line handle rail exclusive [] calls more first script_is calls_is same = absurd cc
-next_use line handle rail exclusive (Set h lo hi ∷ script) calls more first script_is calls_is same = absurd script_is
-next_use line handle rail exclusive (Get h ∷ script) calls more first script_is calls_is same = absurd script_is
 next_use line handle rail exclusive (Open h r e ∷ script) [] more first script_is calls_is same = absurd cc
-next_use line handle rail exclusive (Open h r e ∷ script) (Set h' lo hi ∷ calls) more first script_is calls_is same = absurd calls_is
-next_use line handle rail exclusive (Open h r e ∷ script) (Get h' ∷ calls) more first script_is calls_is same = absurd calls_is
 next_use line handle rail exclusive (Open h r e ∷ script) (Open h' r' e' ∷ calls) more first script_is calls_is same =
     let heads : call_line (Open h' r' e') ≡ call_line (Open h r e) = cc in
     let tails : map call_line calls ≡ map call_line script ++ line ∷ more = cc in
@@ -54,3 +49,5 @@ next_use line handle rail exclusive (Open h r e ∷ script) (Open h' r' e' ∷ c
     let name : h'.bytes ≡ handle.bytes = open_same h' h r' r e' e calls_is.2 script_is.2 heads ∙ ap (λ (x : ArrayString). x.bytes) opened in
     let uses : All (Uses handle.bytes) calls = subst (λ n. All (Uses n) calls) name calls_is.3 in
     used handle.bytes line calls script more uses tails
+next_use line handle rail exclusive (Open h r e ∷ script) (call ∷ calls) more first script_is calls_is same = absurd calls_is
+next_use line handle rail exclusive (call ∷ script) calls more first script_is calls_is same = absurd script_is

@@ -18,9 +18,7 @@ use Rattle.board.specs.declared.table.Table.TheVariants.{Ranges}
 use Rattle.board.specs.Desc.{IsPlaced, IsSoundDesc}
 use Rattle.board.specs.Valid.{CarriesSystemLoad, IsPrinted, SleepsWell, IsSoundRail}
 use Rattle.board.proofs.Exact.{FillsMask, low_holds, one_has}
-use Rattle.plain_board.specs.declared.plain.Plain.{Plain}
-use Rattle.plain_board.specs.Inv.{Inv}
-use Rattle.regulator_main.specs.Demo.{IsCore, IsDemo, core_ranges, low_bits, demo_regs, demo_plain}
+use Rattle.regulator_main.specs.Demo.{IsCore, IsDemo, core_ranges, low_bits, demo_regs}
 
 -- the pairs of `core`
 abbrev core_choices : List (ℕ × ℕ)
@@ -146,10 +144,10 @@ uv-core : (rail : Rail) → IsCore rail → uv rail demo_regs ≡ 800000
 unfolding demo_regs with_byte byte_of field_of
 uv-core rail core = rw (core.desc.selector, core.desc.table) refl
 
-core_lawful : (rail : Rail) → IsCore rail → IsAllowed rail (uv rail demo_regs)
+pub core_lawful : (rail : Rail) → IsCore rail → IsAllowed rail (uv rail demo_regs)
 core_lawful rail core = rw (uv-core rail core) (core_allowed rail core)
 
-length-demo_regs : length demo_regs ≡ 1
+pub length-demo_regs : length demo_regs ≡ 1
 unfolding demo_regs with_byte
 length-demo_regs = refl
 
@@ -168,14 +166,3 @@ demo_lone board demo = record {
   graph = demo.graph;
   order = demo.order;
 }
-
-pub demo_inv : (board : Board) (plain : Plain) → IsDemo board → plain ≡ demo_plain → Inv board plain
-demo_inv board plain demo is =
-    let lawful : Rail → Type 0 = λ rail. IsAllowed rail (uv rail demo_regs) in
-    subst (Inv board) (sym is) (record {
-      law = rw demo.rails (All-cons lawful demo.core [] (core_lawful demo.core demo.is_core) (All-nil lawful));
-      regs = rw demo.chips length-demo_regs;
-      holds = rw demo.rails refl;
-      events = rw demo.rails refl;
-      handles = λ k row within. absurd (omega arith);
-    })

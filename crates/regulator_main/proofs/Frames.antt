@@ -3,8 +3,8 @@ use Rattle.std.proofs.Common.{ℕ, ◌≡◌, ◌≢◌, List, [], ◌∷◌, �
 use Rattle.std.specs.List.{flat_map}
 use Rattle.std.proofs.lemmas.Bool.{eqb-false}
 use Rattle.std.proofs.lemmas.List.Elements.{All-head, All-map}
-use Rattle.plain_board.specs.declared.call.Call.{Call}
-use Rattle.plain_board.specs.declared.call.Call.TheVariants.{Open, Set, Get}
+use Rattle.rows.specs.declared.call.Call.{Call}
+use Rattle.rows.specs.declared.call.Call.TheVariants.{Open}
 use Rattle.regulator_main.specs.Frame.{Setup, Register, Refusal, setup_text, IsSetup, BoardPart, Demo, Text, end_line, board_lines, worker_lines, HasNoEnd, call_line}
 use Rattle.regulator_main.proofs.SetupLines.{IsSetupLine}
 use Rattle.regulator_main.proofs.Separators.{head_is, tail_is, split_once}
@@ -36,8 +36,7 @@ differ_at at xs ys apart same = eqb-false (get_or xs at 0) (get_or ys at 0) apar
 pub call-≢-end : (call : Call) → call_line call ≢ end_line
 call-≢-end (Open handle rail true) same = differ_at 0 (call_line (Open handle rail true)) end_line refl same
 call-≢-end (Open handle rail false) same = differ_at 0 (call_line (Open handle rail false)) end_line refl same
-call-≢-end (Set handle lo hi) same = differ_at 0 (call_line (Set handle lo hi)) end_line refl same
-call-≢-end (Get handle) same = differ_at 0 (call_line (Get handle)) end_line refl same
+call-≢-end call same = differ_at 0 (call_line call) end_line refl same
 
 pub setup-≢-worker : (setup : Setup) → setup_text setup ≢ worker_line
 setup-≢-worker (Register chip reg value) same = differ_at 1 (setup_text (Register chip reg value)) worker_line refl same

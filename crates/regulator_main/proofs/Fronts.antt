@@ -3,7 +3,7 @@ use Rattle.std.proofs.Common.{◌≡◌, ◌≢◌, ℕ, ◌+◌, ◌<◌, ◌�
 use Rattle.std.proofs.lemmas.Bool.{cases_lt}
 use Rattle.reg_outside.specs.Count.{Rose, Stayed}
 use Rattle.reg_outside.proofs.CountFacts.{Rose-not_Stayed}
-use Rattle.plain_board.specs.declared.call.Call.{Call}
+use Rattle.rows.specs.declared.call.Call.{Call}
 use Rattle.plain_board.specs.Text.{printed}
 use Rattle.regulator_main.specs.declared.fault.SessionFault.{SessionFault}
 use Rattle.regulator_main.specs.declared.fault.SessionKind.{SessionKind}

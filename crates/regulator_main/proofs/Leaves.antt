@@ -1,7 +1,7 @@
 -- The first fault of a text, from the line that shows it.
 use Rattle.std.proofs.Common.{ℕ, ◌≡◌, ◌≢◌, ◌+◌, List, [], ◌∷◌, ◌++◌, length, sym, refl, ap, ◌∙◌, subst}
 use Rattle.std.proofs.lemmas.List.{append-nil}
-use Rattle.plain_board.specs.declared.call.Call.{Call}
+use Rattle.rows.specs.declared.call.Call.{Call}
 use Rattle.regulator_main.specs.declared.fault.SessionFault.{SessionFault}
 use Rattle.regulator_main.specs.declared.fault.SessionKind.{SessionKind}
 use Rattle.regulator_main.specs.declared.fault.SessionKind.TheVariants.{BadSession}

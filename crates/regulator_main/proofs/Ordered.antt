@@ -3,7 +3,7 @@ use Rattle.std.proofs.Common.{◌≡◌, ℕ, Bool, true, false, ◌&&◌, ◌||
 use Rattle.std.specs.List.{list_any}
 use Rattle.std.proofs.lemmas.Bool.{false≢true}
 use Rattle.std.proofs.lemmas.Bool.Decides.{nat_tests}
-use Rattle.plain_board.specs.Moves.{put_once, in_order}
+use Rattle.regulator_main.specs.Inside.Way.{put_once, in_order}
 
 -- a number is in a list
 abbrev pub has : ℕ → List ℕ → Bool

@@ -1,7 +1,7 @@
 -- At each place of a session: which line is refused there, and that the text can't end there.
 use Rattle.std.proofs.Common.{ℕ, ◌≡◌, ◌≢◌, ◌≤◌, List, [], ◌∷◌, ◌++◌, map, length, All, sym, refl, ap, ◌∙◌, subst, arith}
 use Rattle.std.proofs.lemmas.List.Elements.{All-nil, All-cons}
-use Rattle.plain_board.specs.declared.call.Call.{Call}
+use Rattle.rows.specs.declared.call.Call.{Call}
 use Rattle.regulator_main.specs.declared.fault.SessionKind.TheVariants.{BadSession, NotYet}
 use Rattle.regulator_main.specs.Frame.{Setup, setup_text, IsSetup, Demo, Text, end_line, frame_lines, HasNoEnd, IsFrame, IsScript, call_line, AreBuilt, AreShort, frame_of, IsBuilt, IsWithinLimits, Begins}
 use Rattle.regulator_main.specs.Lines.{lines_of, unended}

@@ -7,11 +7,11 @@ use Rattle.std.proofs.lemmas.List.Elements.{All-nil}
 use Rattle.reg_outside.specs.Count.{RoseBy}
 use Rattle.reg_outside.proofs.CountFacts.{RoseBy-zero}
 use Rattle.board.specs.declared.board.Board.{Board}
-use Rattle.plain_board.specs.declared.call.Call.{Call}
+use Rattle.rows.specs.declared.call.Call.{Call}
 use Rattle.plain_board.specs.declared.plain.Plain.{Plain}
-use Rattle.plain_board.specs.declared.row.Row.{Row}
+use Rattle.rows.specs.declared.row.Row.{Row}
 use Rattle.plain_board.specs.History.{rows_of, faults_of, moved}
-use Rattle.plain_board.specs.Law.{Law}
+use Rattle.rail_law.specs.Law.{Law}
 use Rattle.regulator_main.specs.Demo.{IsDemo, demo_plain}
 use Rattle.regulator_main.specs.Front.{Runs}
 use Rattle.regulator_main.specs.Script.{Loads, turn_of, turns_of, PlaysWorker}

@@ -1,9 +1,9 @@
 -- A script, one row more at a time.
-use Rattle.std.proofs.Common.{◌≡◌, ℕ, ◌+◌, ◌<◌, inl, true, cond, eqb, ltb, eq-eqb, List, [], ◌∷◌, ◌++◌, Option, Some, None, refl, sym, subst, ap, ◌∙◌, append_assoc, append-nil, zero-add, arith, length-append, map, length, get_or, take, flat_map}
-use Rattle.std.specs.Prelude.{count_by}
+use Rattle.std.proofs.Common.{◌≡◌, ℕ, ◌+◌, ◌<◌, inl, Bool, true, false, cond, eqb, ltb, eq-eqb, List, [], ◌∷◌, ◌++◌, Option, Some, None, refl, sym, subst, ap, ◌∙◌, append_assoc, append-nil, zero-add, arith, length-append, map, length, get_or, take, flat_map}
+use Rattle.std.specs.Prelude.{All, count_by}
 use Rattle.std.proofs.lemmas.Bool.Decides.{nat_tests}
 use Rattle.std.proofs.lemmas.List.{take_more, map-append, flat_map_more}
-use Rattle.std.proofs.lemmas.List.Elements.{All-nil, All-push, filter-append}
+use Rattle.std.proofs.lemmas.List.Elements.{All-nil, All-cons, All-push, All-weaker, filter-append}
 use Rattle.std.proofs.lemmas.List.Sums.{sum_by-append}
 use Rattle.reg_outside.specs.Count.{RoseBy}
 use Rattle.reg_outside.proofs.CountFacts.{RoseBy-zero, RoseBy-trans}
@@ -11,17 +11,21 @@ use Rattle.reg_outside.specs.Told.{with_more}
 use Rattle.reg_outside.proofs.ToldFacts.{with_more-nil, with_more-with_more}
 use Rattle.board.specs.declared.board.Board.{Board}
 use Rattle.board.specs.declared.write.Write.{Write}
-use Rattle.plain_board.specs.declared.answer.Answer.{Answer}
-use Rattle.plain_board.specs.declared.answer.Answer.TheVariants.{Ok, OkSet, OkUv, BadRange, NoValue, NoHandle, Fault}
-use Rattle.plain_board.specs.declared.call.Call.{Call}
+use Rattle.rows.specs.declared.answer.Answer.{Answer}
+use Rattle.rows.specs.declared.call.Call.{Call}
+use Rattle.rows.specs.declared.call.Call.TheVariants.{Open, Set, Get}
 use Rattle.plain_board.specs.declared.plain.Plain.{Plain}
-use Rattle.plain_board.specs.declared.row.Row.{Row}
+use Rattle.rows.specs.declared.row.Row.{Row}
 use Rattle.plain_board.specs.Answer.{answer, plan}
-use Rattle.plain_board.specs.History.{stop_of, IsWithinPlan, made_of, moves_of, after_stop, after, replay, NamesRail, rows_of, IsNext, legal_after, moved, is_fault, faults_of}
-use Rattle.plain_board.specs.Law.{Law, Throughout, LawHolds}
-use Rattle.plain_board.specs.Moves.{writes_of}
-use Rattle.plain_board.specs.Text.{HasRails}
-use Rattle.regulator_main.specs.Desk.{Performs, CountsFault}
+use Rattle.plain_board.specs.History.{stop_of, IsWithinPlan, made_of, moves_of, after_stop, after, replay, rows_of, IsNext, legal_after, moved, is_fault, faults_of}
+use Rattle.rows.specs.Row.{NamesRail}
+use Rattle.rail_law.specs.Law.{Law}
+use Rattle.plain_board.specs.Law.{Throughout, LawHolds}
+use Rattle.rail_law.specs.Moves.{writes_of}
+use Rattle.rows.specs.Row.{HasRails}
+use Rattle.plain_board.specs.Untied.{IsBuiltCall}
+use Rattle.regulator_main.specs.Frame.{Uses, IsScript}
+use Rattle.regulator_main.specs.Desk.{Performs, Counts}
 use Rattle.regulator_main.specs.Script.{PlaysScript, turn_of, turns_of}
 use Rattle.regulator_main.specs.Walk.{Updates, update_of}
 
@@ -56,14 +60,9 @@ after_by board plain plain' row (Some made) within answered =
     rw inside (ap (λ (p : Answer × Plain). p.1) answered)
 
 -- a fault was counted once, and nothing else was
-rose_by : (said : Answer) (count count' : ℕ) → CountsFault said count count' → RoseBy count count' (cond (is_fault said) 1 0)
-rose_by Ok count count' is = subst (λ (c : ℕ). RoseBy count c 0) (sym is) (RoseBy-zero count)
-rose_by (OkSet uv delay) count count' is = subst (λ (c : ℕ). RoseBy count c 0) (sym is) (RoseBy-zero count)
-rose_by (OkUv uv) count count' is = subst (λ (c : ℕ). RoseBy count c 0) (sym is) (RoseBy-zero count)
-rose_by (BadRange lo hi) count count' is = subst (λ (c : ℕ). RoseBy count c 0) (sym is) (RoseBy-zero count)
-rose_by NoValue count count' is = subst (λ (c : ℕ). RoseBy count c 0) (sym is) (RoseBy-zero count)
-rose_by NoHandle count count' is = subst (λ (c : ℕ). RoseBy count c 0) (sym is) (RoseBy-zero count)
-rose_by (Fault chip reg applied now) count count' is = is
+rose_by : (fault : Bool) (count count' : ℕ) → Counts fault count count' → RoseBy count count' (cond fault 1 0)
+rose_by true count count' is = is
+rose_by false count count' is = subst (λ (c : ℕ). RoseBy count c 0) (sym is) (RoseBy-zero count)
 
 -- a row that keeps no writes
 abbrev pub row_of : ℕ → ℕ → Call → Answer → Row
@@ -107,7 +106,7 @@ module _ (board : Board) (plain now plain' : Plain) (worker line : ℕ) (call : 
   -- the plain board after one row more
   pub replay_more : plain' ≡ replay board plain (rows ++ row_of worker line call said ∷ [])
   replay_more =
-      sym (after_by board now plain' the_row (stop_of said) performs.within performs.answered)
+      sym (after_by board now plain' the_row (stop_of said) performs.took.within performs.answered)
       ∙ ap (λ p. after board p the_row) is ∙ sym (replay-append board plain rows (the_row ∷ []))
 
   moved_one : moved board now worker (the_row ∷ []) ≡ writes_of board (made_of (stop_of said) (plan board now worker call))
@@ -120,13 +119,13 @@ module _ (board : Board) (plain now plain' : Plain) (worker line : ℕ) (call : 
       ∙ ap (λ ws. moved board plain worker rows ++ ws) moved_one
 
   -- one call more is played
-  pub plays_more : (script : List Call) (i : ℕ) → Law board plain'.regs → PlaysScript board plain worker (take i script) rows told mid count between
+  pub plays_more : (script : List Call) (i : ℕ) → Throughout (Law board) board now.regs (made_of (stop_of said) (plan board now worker call)) → Law board plain'.regs → PlaysScript board plain worker (take i script) rows told mid count between
       → line ≡ i + 1 → length (rows_of worker rows) ≡ i → NamesRail board call → i < length script → call ≡ get_or script i call
       → PlaysScript board plain worker (take (i + 1) script) (rows ++ row_of worker line call said ∷ []) told told' count count'
-  plays_more script i law plays line_is lines names within here = record {
+  plays_more script i all law plays line_is lines names within here = record {
     legal = legal-push board plain [] rows the_row plays.legal (subst (λ (p : Plain). IsNext board p rows the_row) is (record {
       rail = names;
-      stop = performs.within;
+      stop = performs.took.within;
       answered = sym (ap (λ (p : Answer × Plain). p.0) performs.answered);
       line = line_is ∙ ap (λ n. n + 1) (sym lines);
       writes = inl refl;
@@ -136,17 +135,17 @@ module _ (board : Board) (plain now plain' : Plain) (worker line : ℕ) (call : 
         ∙ sym (ap (turns_of worker) (take_more script i call within ∙ ap (λ c. take i script ++ c ∷ []) (sym here)) ∙ map-append (λ (c : Call). (worker, c)) (take i script) (call ∷ []));
     keeps = All-push (λ r. r.writes ≡ []) rows the_row plays.keeps refl;
     lawful = law_push board plain rows the_row plays.lawful
-        (subst (λ (p : Plain). Throughout (Law board) board p.regs (moves_of board p the_row)) is performs.lawful)
+        (subst (λ (p : Plain). Throughout (Law board) board p.regs (moves_of board p the_row)) is all)
         (subst (λ (p : Plain). Law board (after board p the_row).regs) is
-        (subst (λ (p : Plain). Law board p.regs) (sym (after_by board now plain' the_row (stop_of said) performs.within performs.answered)) law));
+        (subst (λ (p : Plain). Law board p.regs) (sym (after_by board now plain' the_row (stop_of said) performs.took.within performs.answered)) law));
     names = All-push (λ r. NamesRail board r.call) rows the_row plays.names names;
-    rails = All-push (λ r. HasRails board r.answer) rows the_row plays.rails performs.rails;
+    rails = All-push (λ r. HasRails board r.answer) rows the_row plays.rails performs.took.rails;
     moves =
-        performs.updates ∙ ap (λ t. with_more t (map update_of (writes_of board (made_of (stop_of said) (plan board now worker call))))) plays.moves
+        performs.took.updates ∙ ap (λ t. with_more t (map update_of (writes_of board (made_of (stop_of said) (plan board now worker call))))) plays.moves
         ∙ with_more-with_more told (map update_of (moved board plain worker rows)) (map update_of (writes_of board (made_of (stop_of said) (plan board now worker call))))
         ∙ ap (with_more told) (sym (map-append update_of (moved board plain worker rows) (writes_of board (made_of (stop_of said) (plan board now worker call)))) ∙ ap (map update_of) (sym moved_more));
     faults = subst (RoseBy count count') (sym (faults_of-push worker line call said rows))
-        (RoseBy-trans count between count' (faults_of worker rows) (cond (is_fault said) 1 0) plays.faults (rose_by said between count' performs.faults));
+        (RoseBy-trans count between count' (faults_of worker rows) (cond (is_fault said) 1 0) plays.faults (rose_by (is_fault said) between count' performs.took.faults));
   }
 
 -- a text that grows by what each item prints
@@ -154,3 +153,15 @@ pub printed_more : {X : Type 0} (print : X → List ℕ) (xs : List X) (i : ℕ)
 printed_more print xs i x text text' within is before more =
     more ∙ ap (λ t. t ++ print x) before ∙ flat_map_more print [] (take i xs) x
     ∙ ap (flat_map print) (ap (λ y. take i xs ++ y ∷ []) is ∙ sym (take_more xs i x within))
+
+-- what a script of today is made of
+built_use : (name : List ℕ) (call : Call) → Uses name call → IsBuiltCall call
+built_use name (Set handle lo hi) uses = tt
+built_use name (Get handle) uses = tt
+built_use name call uses = absurd uses
+
+pub built_calls : (script : List Call) → IsScript script → All IsBuiltCall script
+built_calls [] is = All-nil IsBuiltCall
+built_calls (Open handle rail exclusive ∷ calls) is =
+    All-cons IsBuiltCall (Open handle rail exclusive) calls tt (All-weaker (Uses handle.bytes) IsBuiltCall (built_use handle.bytes) calls is.3)
+built_calls (call ∷ calls) is = absurd is

@@ -2,7 +2,7 @@
 use Rattle.std.proofs.Common.{ℕ, ◌≡◌, ◌+◌, ◌<◌, ◌≤◌, List, [], ◌∷◌, ◌++◌, map, length, take, drop, sym, refl, ap, ◌∙◌, subst, arith, ⊎_elim, ◌⊎◌, inl, inr}
 use Rattle.std.proofs.lemmas.Bool.{cases_lt}
 use Rattle.std.proofs.lemmas.List.{take-append-drop, take-take}
-use Rattle.plain_board.specs.declared.call.Call.{Call}
+use Rattle.rows.specs.declared.call.Call.{Call}
 use Rattle.regulator_main.specs.declared.fault.SessionFault.{SessionFault}
 use Rattle.regulator_main.specs.declared.fault.SessionKind.{SessionKind}
 use Rattle.regulator_main.specs.declared.fault.SessionKind.TheVariants.{TooLong, BadSession, NotYet, TooManyLines, Memory}

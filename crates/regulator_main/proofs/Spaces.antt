@@ -4,7 +4,7 @@ use Rattle.std.proofs.lemmas.Bool.Decides.{nat_tests}
 use Rattle.std.proofs.lemmas.List.Elements.{All-nil, All-cons, All-from_get_or}
 use Rattle.std.proofs.lemmas.Str.Parse.{not_in_digits}
 use Rattle.std.proofs.lemmas.Fmt.{digits_decimal}
-use Rattle.plain_board.specs.Text.{hex_digit, hex_text}
+use Rattle.rows.specs.Words.{hex_digit, hex_text}
 use Rattle.regulator_main.proofs.Numerals.{decimal_model}
 use Rattle.regulator_main.proofs.Separators.{Lacks, split_once}
 

@@ -7,12 +7,12 @@ use Rattle.linear_range.specs.Pick.{pair_of}
 use Rattle.linear_range.specs.Values.{pick_high, pick_low}
 use Rattle.board.specs.declared.rail.Rail.{Rail}
 use Rattle.board.specs.Rail.{allowed, choices, IsAllowed}
-use Rattle.plain_board.specs.Moves.{stretch, way}
+use Rattle.regulator_main.specs.Inside.Way.{stretch, way}
 use Rattle.regulator_main.proofs.Ordered.{has, upward, downward}
 use Rattle.regulator_main.proofs.Way.{stretch-step, stretch-same}
 use Rattle.regulator_main.proofs.Nearest.{lowest, highest, least_pair-is, greatest_pair-is, best_passes, best_among, best_first, best_preferred, best_some, find-has, IsFirst}
 
-way-rising : (values : List ℕ) (from to : ℕ) → leb from to ≡ true → way values from to ≡ stretch ltb values from to
+pub way-rising : (values : List ℕ) (from to : ℕ) → leb from to ≡ true → way values from to ≡ stretch ltb values from to
 way-rising values from to rising = rw rising
 
 way-falling_by : (values : List ℕ) (from to : ℕ) (t : Bool) → leb from to ≡ t → to ≤ from → cond t (stretch ltb values from to) (stretch (λ a b. ltb b a) values from to) ≡ stretch (λ a b. ltb b a) values from to
@@ -21,7 +21,7 @@ way-falling_by values from to true is falling =
     rw e (stretch-same ltb upward values to ∙ sym (stretch-same (λ a b. ltb b a) downward values to))
 way-falling_by values from to false is falling = refl
 
-way-falling : (values : List ℕ) (from to : ℕ) → to ≤ from → way values from to ≡ stretch (λ a b. ltb b a) values from to
+pub way-falling : (values : List ℕ) (from to : ℕ) → to ≤ from → way values from to ≡ stretch (λ a b. ltb b a) values from to
 way-falling values from to falling = way-falling_by values from to (leb from to) refl falling
 
 above_passes : (from w : ℕ) → ltb from w ≡ true → leb (from + 1) w ≡ true
@@ -108,7 +108,3 @@ module _ (rail : Rail) (from to : ℕ) (target : has to (allowed rail) ≡ true)
 pub is_there : (o : Option Pick) (q : Option (ℕ × ℕ)) → option_map pair_of o ≡ q → (q ≡ None → ⊥) → IsSome o
 is_there None q is there = absurd (there (sym is))
 is_there (Some pick) q is there = refl
-
--- the value of the first pair with it is allowed
-pub first_allowed : (rail : Rail) (p : ℕ × ℕ) → IsFirst (choices rail) p → IsAllowed rail p.1
-first_allowed rail p first = find-has p.1 p (choices rail) first

@@ -14,11 +14,11 @@ use Rattle.board.specs.declared.part.Part.TheVariants.{Selector}
 use Rattle.board.specs.Table.{uv_of}
 use Rattle.board.specs.Rail.{allowed, choices, uv}
 use Rattle.chip_regs.specs.Width.{register_contents}
-use Rattle.plain_board.specs.Law.{StandsWell, Throughout}
-use Rattle.plain_board.specs.Moves.{Move, after_moves, writes_of, moves_to, field_of_move, way, selector_for, update_of_field, written}
+use Rattle.rail_law.specs.Moves.{Move, after_moves, writes_of, field_of_move, selector_for, update_of_field, written}
+use Rattle.regulator_main.specs.Inside.Way.{moves_to, way}
 use Rattle.reg_outside.specs.Told.{with_more}
 use Rattle.reg_outside.proofs.ToldFacts.{with_more-nil, with_more-with_more}
-use Rattle.regulator_main.specs.Walk.{Makes, MovesAlone, Updates, update_of}
+use Rattle.regulator_main.specs.Walk.{Makes, Updates, update_of}
 use Rattle.regulator_main.proofs.Nearest.{IsFirst}
 use Rattle.regulator_main.proofs.Steps.{way-same}
 
@@ -44,25 +44,18 @@ after_moves-append : (board : Board) (regs : List (List ℕ)) (xs ys : List Move
 after_moves-append board regs [] ys = refl
 after_moves-append board regs (x ∷ xs) ys = after_moves-append board (written (field_of_move board x) regs x.bits) xs ys
 
--- one move more, after which it holds
-throughout_more : (P : List (List ℕ) → Type 0) (board : Board) (regs : List (List ℕ)) (moves : List Move) (move : Move) → Throughout P board regs moves
-    → P (written (field_of_move board move) (after_moves board regs moves) move.bits) → Throughout P board regs (moves ++ move ∷ [])
-throughout_more P board regs [] move is then = (is, then)
-throughout_more P board regs (first ∷ moves) move is then = (is.0, throughout_more P board (written (field_of_move board first) regs first.bits) moves move is.1 then)
-
 -- so many of the moves were made
-pub record Walked (board : Board) (rail : Rail) (moves : List Move) (regs regs' : List (List ℕ)) (told told' : Option Updates) (made : ℕ) : Type 0 where
+pub record Walked (board : Board) (moves : List Move) (regs regs' : List (List ℕ)) (told told' : Option Updates) (made : ℕ) : Type 0 where
   pub within : made ≤ length moves
-  pub makes : Makes board rail (take made moves) regs regs' told told'
+  pub makes : Makes board (take made moves) regs regs' told told'
 
 -- one move more
-pub walked_more : (board : Board) (rail : Rail) (moves : List Move) (regs regs' regs'' : List (List ℕ)) (told told' told'' : Option Updates) (made : ℕ) (move : Move) (rest : List Move)
-    → Walked board rail moves regs regs' told told' made → drop made moves ≡ move ∷ rest
+pub walked_more : (board : Board) (moves : List Move) (regs regs' regs'' : List (List ℕ)) (told told' told'' : Option Updates) (made : ℕ) (move : Move) (rest : List Move)
+    → Walked board moves regs regs' told told' made → drop made moves ≡ move ∷ rest
     → regs'' ≡ written (field_of_move board move) regs' move.bits
     → told'' ≡ with_more told' (update_of (update_of_field (field_of_move board move) move.bits) ∷ [])
-    → MovesAlone rail regs regs''
-    → Walked board rail moves regs regs'' told told'' (made + 1)
-walked_more board rail moves regs regs' regs'' told told' told'' made move rest walked next registers updates stands =
+    → Walked board moves regs regs'' told told'' (made + 1)
+walked_more board moves regs regs' regs'' told told' told'' made move rest walked next registers updates =
     let within = within_from_rest moves made move rest next in
     let here : get_or moves made move ≡ move = let e = drop_more moves made move within in cc in
     let taken : take (made + 1) moves ≡ take made moves ++ move ∷ [] = take_more moves made move within ∙ ap (λ m. take made moves ++ m ∷ []) here in
@@ -71,9 +64,6 @@ walked_more board rail moves regs regs' regs'' told told' told'' made move rest 
       makes = record {
         registers = registers ∙ ap (λ r. written (field_of_move board move) r move.bits) walked.makes.registers
             ∙ sym (after_moves-append board regs (take made moves) (move ∷ [])) ∙ ap (after_moves board regs) (sym taken);
-        lawful = subst (λ (ms : List Move). Throughout (MovesAlone rail regs) board regs ms) (sym taken)
-            (throughout_more (MovesAlone rail regs) board regs (take made moves) move walked.makes.lawful
-            (subst (MovesAlone rail regs) (registers ∙ ap (λ r. written (field_of_move board move) r move.bits) walked.makes.registers) stands));
         updates = updates ∙ ap (λ t. with_more t (update_of (update_of_field (field_of_move board move) move.bits) ∷ [])) walked.makes.updates
             ∙ with_more-with_more told (map update_of (writes_of board (take made moves))) (update_of (update_of_field (field_of_move board move) move.bits) ∷ [])
             ∙ ap (with_more told) (
@@ -89,8 +79,8 @@ rest_more moves made move rest next =
     let e = drop_more moves made move (within_from_rest moves made move rest next) in cc
 
 -- no move was made yet
-pub walked_none : (board : Board) (rail : Rail) (moves : List Move) (regs : List (List ℕ)) (told : Option Updates) → StandsWell rail regs → Walked board rail moves regs regs told told 0
-walked_none board rail moves regs told stands = record { within = omega arith; makes = record { registers = refl; lawful = (stands, λ other apart. refl); updates = sym (with_more-nil told) } }
+pub walked_none : (board : Board) (moves : List Move) (regs : List (List ℕ)) (told : Option Updates) → Walked board moves regs regs told told 0
+walked_none board moves regs told = record { within = omega arith; makes = record { registers = refl; updates = sym (with_more-nil told) } }
 
 -- the selector of a value is that of the first pair with it
 pub selector_for-first : (rail : Rail) (p : ℕ × ℕ) → IsFirst (choices rail) p → selector_for rail p.1 ≡ p.0
@@ -127,13 +117,13 @@ pub none_left : (id : RailId) (rail : Rail) (at to made : ℕ) (moves : List Mov
 none_left id rail at to made moves rest there = sym rest ∙ ap (λ v. moves_to id rail v to) there ∙ moves_to-same id rail to
 
 -- all moves were made, where none is left
-pub walked_all : (board : Board) (rail : Rail) (moves : List Move) (regs regs' : List (List ℕ)) (told told' : Option Updates) (made : ℕ)
-    → Walked board rail moves regs regs' told told' made → drop made moves ≡ [] → Makes board rail moves regs regs' told told'
-walked_all board rail moves regs regs' told told' made walked none =
-    subst (λ (ms : List Move). Makes board rail ms regs regs' told told') (take_of_all made moves none) walked.makes
+pub walked_all : (board : Board) (moves : List Move) (regs regs' : List (List ℕ)) (told told' : Option Updates) (made : ℕ)
+    → Walked board moves regs regs' told told' made → drop made moves ≡ [] → Makes board moves regs regs' told told'
+walked_all board moves regs regs' told told' made walked none =
+    subst (λ (ms : List Move). Makes board ms regs regs' told told') (take_of_all made moves none) walked.makes
 
 -- a rail that stands at its target makes no move
-pub makes_none : (board : Board) (id : RailId) (rail : Rail) (from to : ℕ) (regs : List (List ℕ)) (told : Option Updates) → from ≡ to → StandsWell rail regs → Makes board rail (moves_to id rail from to) regs regs told told
-makes_none board id rail from to regs told there stands =
-    subst (λ (moves : List Move). Makes board rail moves regs regs told told) (sym (ap (λ v. moves_to id rail v to) there ∙ moves_to-same id rail to))
-    (record { registers = refl; lawful = (stands, λ other apart. refl); updates = sym (with_more-nil told) })
+pub makes_none : (board : Board) (id : RailId) (rail : Rail) (from to : ℕ) (regs : List (List ℕ)) (told : Option Updates) → from ≡ to → Makes board (moves_to id rail from to) regs regs told told
+makes_none board id rail from to regs told there =
+    subst (λ (moves : List Move). Makes board moves regs regs told told) (sym (ap (λ v. moves_to id rail v to) there ∙ moves_to-same id rail to))
+    (record { registers = refl; updates = sym (with_more-nil told) })

@@ -1,6 +1,6 @@
 -- The way of a rail, one value at a time.
 use Rattle.std.proofs.Common.{◌≡◌, ℕ, Bool, true, false, not, ◌&&◌, ◌||◌, cond, eqb, eqb-true, List, [], ◌∷◌, refl, sym, ap, ◌∙◌, filter}
-use Rattle.plain_board.specs.Moves.{in_order, stretch}
+use Rattle.regulator_main.specs.Inside.Way.{in_order, stretch}
 use Rattle.regulator_main.proofs.Ordered.{has, IsOrder, Chain-in_order, has-in_order, has-filter, leads_all, same_chain, and_false}
 
 pub left_true : (a b : Bool) → (a && b) ≡ true → a ≡ true

@@ -3,7 +3,7 @@ use Rattle.std.proofs.Common.{ℕ, ◌≡◌, ◌≢◌, ◌≤◌, List, [], �
 use Rattle.std.specs.List.{flat_map}
 use Rattle.std.proofs.lemmas.List.{append-nil, map-append, length-map}
 use Rattle.std.proofs.lemmas.List.Elements.{All-nil, All-cons, All-head, All-append}
-use Rattle.plain_board.specs.declared.call.Call.{Call}
+use Rattle.rows.specs.declared.call.Call.{Call}
 use Rattle.regulator_main.specs.declared.fault.SessionKind.TheVariants.{BadSession, NotYet, TooManyLines}
 use Rattle.regulator_main.specs.Frame.{IsSetup, Demo, end_line, worker_lines, frame_lines, HasNoEnd, IsFrame, IsScript, call_line, AreShort, frame_of, IsBuilt, IsWithinLimits, Begins}
 use Rattle.regulator_main.specs.Reading.{before_calls}

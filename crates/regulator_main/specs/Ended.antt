@@ -2,8 +2,8 @@
 use Rattle.std.specs.Prelude.{ℕ, ◌≡◌, ◌≢◌, ◌+◌, ◌⊎◌, List, Option, length}
 use Rattle.reg_outside.specs.Count.{Rose}
 use Rattle.board.specs.declared.board.Board.{Board}
-use Rattle.plain_board.specs.declared.call.Call.{Call}
-use Rattle.plain_board.specs.declared.row.Row.{Row}
+use Rattle.rows.specs.declared.call.Call.{Call}
+use Rattle.rows.specs.declared.row.Row.{Row}
 use Rattle.plain_board.specs.Text.{printed}
 use Rattle.regulator_main.specs.declared.fault.SessionFault.{SessionFault}
 use Rattle.regulator_main.specs.declared.fault.SessionKind.TheVariants.{Memory as no_memory}

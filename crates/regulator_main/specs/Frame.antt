@@ -2,9 +2,10 @@
 use Rattle.std.specs.Prelude.{ℕ, ◌≡◌, ◌≢◌, ◌^◌, ◌<◌, ◌≤◌, ◌==◌, ◌&&◌, ◌||◌, nat_le, Bool, false, List, [], ◌∷◌, ◌++◌, map, length, flat_map, codes, decimal, All, IsTrue}
 use Rattle.std.specs.List.{list_all}
 use Rattle.chip_regs.specs.Width.{chip_registers, register_contents}
-use Rattle.plain_board.specs.declared.call.Call.{Call}
-use Rattle.plain_board.specs.declared.call.Call.TheVariants.{Open, Set, Get}
-use Rattle.plain_board.specs.Text.{spaced, call_text, hex_text}
+use Rattle.rows.specs.declared.call.Call.{Call}
+use Rattle.rows.specs.declared.call.Call.TheVariants.{Open, Set, Get}
+use Rattle.rows.specs.Words.{spaced, hex_text}
+use Rattle.rows.specs.CallText.{call_text}
 
 -- a line that stands between the board and the workers: a register's content, or an update that is refused
 pub data Setup : Type 0 where
@@ -74,9 +75,9 @@ IsHandleName (byte ∷ bytes) = IsTrue (is_letter byte) × IsTrue (list_all is_n
 
 -- a call on the handle of this name
 abbrev pub Uses : List ℕ → Call → Type 0
-Uses name (Open handle rail exclusive) = ⊥
 Uses name (Set handle lo hi) = (handle.bytes ≡ name) × (lo < 2 ^ 32) × (hi < 2 ^ 32)
 Uses name (Get handle) = handle.bytes ≡ name
+Uses name _ = ⊥
 
 -- the scripts that are built so far: one handle is opened on the one rail, and then used
 abbrev pub IsScript : List Call → Type 0

@@ -1,11 +1,11 @@
 -- What `front` says: what was read, what was run, and what was written.
-use Rattle.std.specs.Prelude.{ℕ, ◌≡◌, ◌≢◌, ◌+◌, ◌<◌, ◌≤◌, List, [], ◌∷◌, ◌++◌, map, take, length, codes, Option, option_map}
+use Rattle.std.specs.Prelude.{ℕ, false, ◌≡◌, ◌≢◌, ◌+◌, ◌<◌, ◌≤◌, List, [], ◌∷◌, ◌++◌, map, take, length, codes, Option, option_map}
 use Rattle.reg_outside.specs.Count.{RoseBy}
 use Rattle.reg_outside.specs.Told.{with_before, with_more, IsSpent}
 use Rattle.board.specs.declared.board.Board.{Board}
-use Rattle.plain_board.specs.declared.call.Call.{Call}
-use Rattle.plain_board.specs.declared.row.Row.{Row}
-use Rattle.plain_board.specs.History.{IsLegal, KeepsNone, moved, faults_of}
+use Rattle.rows.specs.declared.call.Call.{Call}
+use Rattle.rows.specs.declared.row.Row.{Row}
+use Rattle.plain_board.specs.History.{IsLegal, Keeps, moved, faults_of}
 use Rattle.plain_board.specs.Law.{LawHolds}
 use Rattle.plain_board.specs.Text.{printed}
 use Rattle.regulator_main.specs.declared.fault.SessionFault.{SessionFault}
@@ -38,7 +38,7 @@ pub record Runs (scripts : List (List Call)) (board : Board) (rows : List Row) (
   pub demo : IsDemo board
   pub legal : IsLegal board demo_plain rows
   pub in_order : map turn_of rows ≡ turns 1 scripts
-  pub keeps : KeepsNone rows
+  pub keeps : Keeps false board demo_plain rows
   -- the board is lawful at the start and after every single register write
   pub lawful : LawHolds board demo_plain rows
   -- each fault of a worker was counted under its number

@@ -4,6 +4,7 @@ pub mod Ended
 pub mod Frame
 pub mod Front
 pub mod Input
+pub mod Inside
 pub mod Lines
 pub mod Reading
 pub mod Script

@@ -1,14 +1,15 @@
 -- What a worker's script does, run from its first line to its last.
-use Rattle.std.specs.Prelude.{ℕ, ◌≡◌, ◌≢◌, List, [], map, All, Option, option_map}
+use Rattle.std.specs.Prelude.{ℕ, false, ◌≡◌, ◌≢◌, List, [], map, All, Option, option_map}
 use Rattle.reg_outside.specs.Count.{RoseBy}
 use Rattle.reg_outside.specs.Told.{with_more}
 use Rattle.board.specs.declared.board.Board.{Board}
-use Rattle.plain_board.specs.declared.call.Call.{Call}
+use Rattle.rows.specs.declared.call.Call.{Call}
 use Rattle.plain_board.specs.declared.plain.Plain.{Plain}
-use Rattle.plain_board.specs.declared.row.Row.{Row}
-use Rattle.plain_board.specs.History.{NamesRail, IsLegal, KeepsNone, moved, faults_of}
+use Rattle.rows.specs.declared.row.Row.{Row}
+use Rattle.rows.specs.Row.{NamesRail}
+use Rattle.plain_board.specs.History.{IsLegal, Keeps, moved, faults_of}
 use Rattle.plain_board.specs.Law.{LawHolds}
-use Rattle.plain_board.specs.Text.{HasRails}
+use Rattle.rows.specs.Row.{HasRails}
 use Rattle.regulator_main.specs.Walk.{Updates, update_of}
 
 -- the call of a row, with its worker
@@ -24,7 +25,7 @@ turns_of worker script = map (λ call. (worker, call)) script
 pub record PlaysScript (board : Board) (plain : Plain) (worker : ℕ) (script : List Call) (rows : List Row) (told told' : Option Updates) (count count' : ℕ) : Type 0 where
   pub legal : IsLegal board plain rows
   pub in_order : map turn_of rows ≡ turns_of worker script
-  pub keeps : KeepsNone rows
+  pub keeps : Keeps false board plain rows
   pub lawful : LawHolds board plain rows
   pub names : All (λ row. NamesRail board row.call) rows
   pub rails : All (λ row. HasRails board row.answer) rows
@@ -36,7 +37,7 @@ pub record PlaysScript (board : Board) (plain : Plain) (worker : ℕ) (script : 
 pub record PlaysWorker (board : Board) (plain : Plain) (worker : ℕ) (script : List Call) (rows : List Row) (counts counts' : ℕ → ℕ) (lists lists' : ℕ → Option Updates) : Type 0 where
   pub legal : IsLegal board plain rows
   pub in_order : map turn_of rows ≡ turns_of worker script
-  pub keeps : KeepsNone rows
+  pub keeps : Keeps false board plain rows
   pub lawful : LawHolds board plain rows
   pub names : All (λ row. NamesRail board row.call) rows
   pub rails : All (λ row. HasRails board row.answer) rows

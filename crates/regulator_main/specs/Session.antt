@@ -1,7 +1,7 @@
 -- What a text of a session stands for, or its first fault.
 use Rattle.std.specs.Prelude.{ℕ, ◌≡◌, ◌+◌, ◌<◌, ◌≤◌, List, [], ◌∷◌, take, length, codes, decimal}
-use Rattle.plain_board.specs.declared.call.Call.{Call}
-use Rattle.plain_board.specs.Text.{spaced, ended}
+use Rattle.rows.specs.declared.call.Call.{Call}
+use Rattle.rows.specs.Words.{spaced, ended}
 use Rattle.regulator_main.specs.declared.fault.SessionFault.{SessionFault}
 use Rattle.regulator_main.specs.declared.fault.SessionKind.{SessionKind}
 use Rattle.regulator_main.specs.declared.fault.SessionKind.TheVariants.{TooLong, BadSession, NotYet, TooManyLines, Memory}

@@ -1,13 +1,13 @@
 ghost use Rattle.std.specs.Prelude.{ℕ, ◌≡◌, ◌≢◌, ◌+◌, ◌^◌, ◌<◌, List, [], ◌∷◌, ◌++◌, map, codes, decimal, IfSome, IfNone, IsTrue, ◌↔◌};
-ghost use Rattle.plain_board.specs.declared.call.Call.{Call};
-ghost use Rattle.plain_board.specs.Text.{spaced};
+ghost use Rattle.rows.specs.declared.call.Call.{Call};
+ghost use Rattle.rows.specs.Words.{spaced};
 ghost use Rattle.regulator_main.specs.Frame.{call_line, IsScript, Uses};
 
 use crate::handles::parse_handle;
 use crate::numbers::parse_number_pair;
 use crate::split::{after_prefix, before_suffix};
 use board::{Handle, RailId};
-use plain_board::Call;
+use rows::Call;
 
 /// The call that opens a handle on the rail `core`.
 fn parse_open(line: &[u8]) -> Option<Call>

@@ -1,6 +1,6 @@
 ghost use Rattle.std.specs.Prelude.{ℕ, ◌≡◌, ◌≢◌, ◌↔◌, ◌+◌, ◌⊎◌, List, Some, IfOk, IsTrue, map, string_bytes};
 ghost use Rattle.reg_outside.specs.Count.{Rose, Stayed};
-ghost use Rattle.plain_board.specs.declared.call.Call.{Call as TheCall};
+ghost use Rattle.rows.specs.declared.call.Call.{Call as TheCall};
 ghost use Rattle.regulator_main.specs.declared.fault.SessionFault.{SessionFault as TheFault};
 ghost use Rattle.regulator_main.specs.Ended.{Sent, NotSent, Played, Answered, Ended};
 ghost use Rattle.regulator_main.specs.Frame.{AreBuilt, AreShort};
@@ -15,8 +15,8 @@ use crate::play::play;
 use crate::session::read_session;
 use crate::status::Status;
 use item_list::Items;
-use plain_board::Call;
 use reg_outside::{Lab, Sink, Source};
+use rows::Call;
 use std::alloc::{AllocError, Global};
 use std::sync::Wait;
 use std::thread::Threads;

@@ -1,5 +1,5 @@
 ghost use Rattle.std.specs.Prelude.{ℕ, ◌≡◌, List, map};
-ghost use Rattle.plain_board.specs.declared.call.Call.{Call};
+ghost use Rattle.rows.specs.declared.call.Call.{Call};
 ghost use Rattle.regulator_main.specs.Frame.{call_line};
 ghost use Rattle.regulator_main.specs.Session.{IsSession, FirstFault};
 ghost use Rattle.regulator_main.specs.declared.fault.SessionFault.{SessionFault};

@@ -1,5 +1,5 @@
 ghost use Rattle.std.specs.Prelude.{ℕ, ◌≡◌, ◌≢◌, ◌+◌, ◌^◌, ◌<◌, [], ◌∷◌, decimal, IfSome, IfNone, IsTrue, ◌↔◌};
-ghost use Rattle.plain_board.specs.Text.{spaced, hex_digit, hex_text};
+ghost use Rattle.rows.specs.Words.{spaced, hex_digit, hex_text};
 ghost use Rattle.regulator_main.specs.Words.{IsPlain};
 
 use crate::split::split_first;

@@ -1,10 +1,14 @@
 ghost use Rattle.std.specs.Prelude.{◌≡◌, ◌≤◌, ◌+◌, ◌++◌, ◌<◌, ◌^◌, List, IfOk, OnOk, length, flat_map, map, All};
 ghost use Rattle.board.specs.declared.board.Board.{Board as TheBoard};
+ghost use Rattle.board.specs.Lone.{IsLone};
 ghost use Rattle.board.specs.Valid.{IsValid};
-ghost use Rattle.plain_board.specs.declared.row.Row.{Row as TheRow};
-ghost use Rattle.plain_board.specs.History.{NamesRail, replay};
+ghost use Rattle.rows.specs.declared.row.Row.{Row as TheRow};
+ghost use Rattle.rows.specs.Row.{NamesRail};
+ghost use Rattle.plain_board.specs.History.{replay};
 ghost use Rattle.plain_board.specs.Inv.{Inv};
-ghost use Rattle.plain_board.specs.Text.{row_text, summary_text, printed, HasRails};
+ghost use Rattle.plain_board.specs.Untied.{IsBuiltCall};
+ghost use Rattle.rows.specs.Row.{row_text, HasRails};
+ghost use Rattle.plain_board.specs.Text.{summary_text, printed};
 ghost use Rattle.regulator_main.specs.Demo.{IsDemo, demo_plain};
 ghost use Rattle.regulator_main.specs.Frame.{AreBuilt, AreShort};
 ghost use Rattle.regulator_main.specs.Front.{Runs};
@@ -15,8 +19,9 @@ use crate::script::run_script;
 use board::Board;
 use board::laws::lone_is_valid;
 use item_list::Items;
-use plain_board::{Call, Plain, Row, summary};
+use plain_board::{Plain, summary};
 use reg_outside::Lab;
+use rows::{Call, Row};
 use std::alloc::{AllocError, Global};
 
 /// The lines of rows, in order.
@@ -63,9 +68,12 @@ fn play_worker<L: Lab>(
     script: &[Call],
 ) -> Result<Vec<Row>, AllocError>
     requires valid { IsValid board.now }
+    requires lone { IsLone board.now }
     requires inv { Inv board.now plain.old }
     requires rails { All (NamesRail board.now) script.now }
-    requires short { length script.now ≤ 4096 }
+    requires built { All IsBuiltCall script.now }
+    requires short { length plain.old.handles + length script.now < 2 ^ 32 }
+    requires numbered { length script.now ≤ 4096 }
     ensures plays { IfOk result (λ rows. PlaysWorker board.now plain.old worker script.now rows.items (L.faults lab.old) (L.faults lab.new) (L.list lab.old) (L.list lab.new)) }
     ensures replayed { IfOk result (λ rows. plain.new ≡ replay board.now plain.old rows.items) }
     ensures inv { OnOk result (Inv board.now plain.new) }

@@ -11,7 +11,7 @@ use crate::input::SESSION_LIMIT;
 use crate::setup::is_setup;
 use crate::split::split_first;
 use item_list::Items;
-use plain_board::Call;
+use rows::Call;
 use std::alloc::{AllocError, Global};
 
 /// The most call lines that a worker may have.

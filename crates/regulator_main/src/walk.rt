@@ -8,8 +8,8 @@ ghost use Rattle.std.specs.Int.{abs_diff};
 ghost use Rattle.board.specs.Table.{uv_of};
 ghost use Rattle.board.specs.Rail.{allowed, choices, uv, IsAllowed};
 ghost use Rattle.board.specs.Valid.{IsSoundRail};
-ghost use Rattle.plain_board.specs.Moves.{way, moves_to};
-ghost use Rattle.regulator_main.specs.Walk.{Makes, IsSameBeside};
+ghost use Rattle.regulator_main.specs.Inside.Way.{way, moves_to};
+ghost use Rattle.regulator_main.specs.Walk.{Makes};
 
 use board::{Board, Rail, RailId};
 use chip_regs::{Bits, Field, Regs};
@@ -23,7 +23,6 @@ fn above(rail: &Rail, from: u32, target: u32) -> Pick
     ensures next { way (allowed rail.now) from target ≡ result.uv ∷ way (allowed rail.now) result.uv target }
     ensures first { find (λ pair. pair.1 == result.uv) (choices rail.now) ≡ Some (pair_of result) }
     ensures value { rail.now.changeable ≡ true → uv_of rail.now.desc.table result.sel ≡ Some result.uv }
-    ensures lawful { IsAllowed rail.now result.uv }
     ensures nearer { from < result.uv }
     ensures not_past { result.uv ≤ target }
 {
@@ -37,7 +36,6 @@ fn below(rail: &Rail, from: u32, target: u32) -> Pick
     ensures next { way (allowed rail.now) from target ≡ result.uv ∷ way (allowed rail.now) result.uv target }
     ensures first { find (λ pair. pair.1 == result.uv) (choices rail.now) ≡ Some (pair_of result) }
     ensures value { rail.now.changeable ≡ true → uv_of rail.now.desc.table result.sel ≡ Some result.uv }
-    ensures lawful { IsAllowed rail.now result.uv }
     ensures nearer { result.uv < from }
     ensures not_past { target ≤ result.uv }
 {
@@ -51,7 +49,6 @@ fn toward(rail: &Rail, from: u32, target: u32) -> Pick
     ensures next { way (allowed rail.now) from target ≡ result.uv ∷ way (allowed rail.now) result.uv target }
     ensures first { find (λ pair. pair.1 == result.uv) (choices rail.now) ≡ Some (pair_of result) }
     ensures value { rail.now.changeable ≡ true → uv_of rail.now.desc.table result.sel ≡ Some result.uv }
-    ensures lawful { IsAllowed rail.now result.uv }
     ensures nearer { abs_diff result.uv target < abs_diff from target }
 {
     if from < target {
@@ -78,7 +75,6 @@ fn write_field<W: Wire>(
     ensures same_registers { OnErr result (regs.new ≡ regs.old) }
     ensures not_told { OnErr result (W.accepted wire.new ≡ W.accepted wire.old) }
     ensures fault { OnErr result (Rose (W.faults wire.old) (W.faults wire.new)) }
-    ensures others { IsSameBeside (Some field.now) regs.old regs.new }
     ensures chips { length regs.new ≡ length regs.old }
 {
     wire.update(field.chip, field.reg, field.mask, bits << field.shift)?;
@@ -102,15 +98,12 @@ pub(crate) fn walk<W: Wire>(
     requires sound { IsSoundRail (length regs.old) rail.now }
     requires changeable { rail.now.changeable ≡ true }
     requires allowed { IsAllowed rail.now target }
-    requires lawful { IsAllowed rail.now (uv rail.now regs.old) }
-    ensures there { OnOk result (Makes board.now rail.now (moves_to id rail.now (uv rail.now regs.old) target) regs.old regs.new (W.accepted wire.old) (W.accepted wire.new)) }
+    ensures there { OnOk result (Makes board.now (moves_to id rail.now (uv rail.now regs.old) target) regs.old regs.new (W.accepted wire.old) (W.accepted wire.new)) }
     ensures counted { OnOk result (W.faults wire.new ≡ W.faults wire.old) }
     ensures before_the_end { IfErr result (λ made. made < length (moves_to id rail.now (uv rail.now regs.old) target)) }
-    ensures stopped { IfErr result (λ made. Makes board.now rail.now (take made (moves_to id rail.now (uv rail.now regs.old) target)) regs.old regs.new (W.accepted wire.old) (W.accepted wire.new)) }
+    ensures stopped { IfErr result (λ made. Makes board.now (take made (moves_to id rail.now (uv rail.now regs.old) target)) regs.old regs.new (W.accepted wire.old) (W.accepted wire.new)) }
     ensures fault { OnErr result (Rose (W.faults wire.old) (W.faults wire.new)) }
-    ensures others { IsSameBeside (Some field) regs.old regs.new }
     ensures chips { length regs.new ≡ length regs.old }
-    ensures lawful { IsAllowed rail.now (uv rail.now regs.new) }
 {
     let mut at = rail.uv(regs);
     let mut made = 0;
@@ -138,15 +131,13 @@ pub(crate) fn settle<W: Wire>(
     requires sound { IsSoundRail (length regs.old) rail.now }
     requires allowed { IsAllowed rail.now target }
     requires lawful { IsAllowed rail.now (uv rail.now regs.old) }
-    ensures there { OnOk result (Makes board.now rail.now (moves_to id rail.now (uv rail.now regs.old) target) regs.old regs.new (W.accepted wire.old) (W.accepted wire.new)) }
+    ensures there { OnOk result (Makes board.now (moves_to id rail.now (uv rail.now regs.old) target) regs.old regs.new (W.accepted wire.old) (W.accepted wire.new)) }
     ensures counted { OnOk result (W.faults wire.new ≡ W.faults wire.old) }
     ensures selector { IfErr result (λ stop. rail.now.desc.selector ≡ Some stop.0) }
     ensures before_the_end { IfErr result (λ stop. stop.1 < length (moves_to id rail.now (uv rail.now regs.old) target)) }
-    ensures stopped { IfErr result (λ stop. Makes board.now rail.now (take stop.1 (moves_to id rail.now (uv rail.now regs.old) target)) regs.old regs.new (W.accepted wire.old) (W.accepted wire.new)) }
+    ensures stopped { IfErr result (λ stop. Makes board.now (take stop.1 (moves_to id rail.now (uv rail.now regs.old) target)) regs.old regs.new (W.accepted wire.old) (W.accepted wire.new)) }
     ensures fault { OnErr result (Rose (W.faults wire.old) (W.faults wire.new)) }
-    ensures others { IsSameBeside rail.now.desc.selector regs.old regs.new }
     ensures chips { length regs.new ≡ length regs.old }
-    ensures law { IsAllowed rail.now (uv rail.now regs.new) }
 {
     if rail.uv(regs) == target {
         return Ok(());

@@ -1,7 +1,7 @@
 use Rattle.std.proofs.Common.{◌≡◌, ℕ, ◌+◌, ◌*◌, ◌≤◌, refl, add-zero, sym, ◌∙◌, arith}
 use Rattle.std.proofs.lemmas.List.{take_all}
 use Rattle.std.proofs.lemmas.List.Sums.{sum_by_more}
-use Rattle.plain_board.specs.Counts.{enables_by}
+use Rattle.plain_board.proofs.Rows.{enables_by, sum_by-rows_on}
 use Rattle.plain_board.proofs.counts.enables.Goals as goal
 use Rattle.plain_board.proofs.counts.enables.Goals.{then-eq, else-eq}
 
@@ -32,4 +32,4 @@ loop-on-preserved c =
 pub returns-clause-value : goal.returns-clause-value
 returns-clause-value c =
     let all = take_all c.loop-on.on-index c.as_slice-on-items.result.now c.loop-on-test.false in
-    rw (c.loop-on.invariant.added, all, c.as_slice-on-items.ensures) refl
+    rw (c.loop-on.invariant.added, all, c.as_slice-on-items.ensures) (sym (sum_by-rows_on c.args.id.0 c.args.plain.now.handles))

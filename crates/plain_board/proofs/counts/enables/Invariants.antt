@@ -1,5 +1,5 @@
 use Rattle.std.proofs.Common.{◌≡◌, ◌*◌, ◌≤◌, take, sum_by}
-use Rattle.plain_board.specs.Counts.{enables_by}
+use Rattle.plain_board.proofs.Rows.{enables_by}
 use Rattle.plain_board.proofs.counts.enables.Given as goal
 
 abbrev pub invariant-loop-on : goal.invariant-loop-on

@@ -23,7 +23,7 @@ pub is_on-requires : goal.is_on-requires
 is_on-requires c =
     let within = rw c.as_slice-rail-items.ensures at c.loop-rail-test.true in
     let sound = c.requires.valid.sound.rails _ c.rail-item.result within in
-    rw (c.requires.inv.regs, c.rail-item.is, c.as_slice-rail-items.ensures) sound.desc.placed
+    rw (c.requires.inv.kept.regs, c.rail-item.is, c.as_slice-rail-items.ensures) sound.desc.placed
 
 pub overflow_add-count : goal.overflow_add-count
 overflow_add-count c =

@@ -1,6 +1,6 @@
 use Rattle.std.proofs.Common.{◌≡◌, ◌∙◌}
 use Rattle.plain_board.specs.Text.{summary_text}
-use Rattle.plain_board.proofs.Appended.{OnOk-appended, OnErr-appended}
+use Rattle.rows.proofs.Appended.{OnOk-appended, OnErr-appended}
 use Rattle.plain_board.proofs.summary_text.summary.Goals as goal
 
 pub rails_text-requires : goal.rails_text-requires

@@ -1,7 +1,7 @@
 use Rattle.std.proofs.Common.{◌≡◌, ◌≢◌, Some, rules}
 use Rattle.std.specs.Prelude.{slice_get}
-use Rattle.plain_board.specs.declared.call.Call.{Call}
-use Rattle.plain_board.specs.declared.call.Call.TheVariants.{Open}
+use Rattle.rows.specs.declared.call.Call.{Call}
+use Rattle.rows.specs.declared.call.Call.TheVariants.{Open}
 use Rattle.regulator_main.specs.Frame.{Uses, call_line}
 use Rattle.regulator_main.proofs.CallLines.{next_use}
 use Rattle.regulator_main.proofs.Options.{none_then}

@@ -1,5 +1,5 @@
 use Rattle.std.proofs.Common.{ℕ, ◌≢◌, ◌≡◌, ◌^◌, ◌<◌, [], ◌∷◌, ◌++◌, decimal, rules}
-use Rattle.plain_board.specs.Text.{spaced}
+use Rattle.rows.specs.Words.{spaced}
 use Rattle.regulator_main.proofs.CallLines.{after_name}
 use Rattle.regulator_main.proofs.Options.{none_then}
 use Rattle.regulator_main.proofs.calls.parse_set.Goals as goal

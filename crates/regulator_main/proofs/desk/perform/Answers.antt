@@ -1,42 +1,68 @@
-use Rattle.std.proofs.Common.{arith}
+use Rattle.std.proofs.Common.{refl, arith}
+use Rattle.std.specs.Prelude.{Result, Ok, Err, IfOk}
 use Rattle.std.proofs.lemmas.Result.{IfOk-weaker, on_ok_weaker}
-use Rattle.regulator_main.proofs.Set.{performs_open, performs_get, inv_open, length-open}
+use Rattle.rows.specs.declared.call.Call.TheVariants.{Open, Set, Get}
+use Rattle.rows.specs.declared.call.Call.{Call}
+use Rattle.regulator_main.specs.Desk.{Performs}
+use Rattle.regulator_main.proofs.LoneGoal.{lone_untied}
+use Rattle.regulator_main.proofs.Performed.{performs-still, performed-inv, performed-lawful}
 use Rattle.regulator_main.proofs.desk.perform.Goals as goal
 
-pub set-requires : goal.set-requires
-set-requires g c = record { valid = c.requires.valid; inv = c.requires.inv }
+-- what follows of the answer from two of its facts
+both_ok : {T E : Type 0} (r : Result T E) (P Q R : T → Type 0) → ((t : T) → P t → Q t → R t) → IfOk r P → IfOk r Q → IfOk r R
+both_ok (Ok t) P Q R follows p q = follows t p q
+both_ok (Err e) P Q R follows p q = tt
 
-pub get-requires : goal.get-requires
-get-requires g c = record { valid = c.requires.valid; inv = c.requires.inv }
-
-pub returns-in-Open-clause-performs : goal.returns-in-Open-clause-performs
-returns-in-Open-clause-performs g c =
-    rw c.in-Open.is (IfOk-weaker c.open.result _ _
-    (λ said is. performs_open c.args.board.now c.args.plain.now c.open.new.plain c.args.worker c.in-Open.handle c.in-Open.rail c.in-Open.exclusive said _ _ c.requires.inv.law is)
-    c.open.ensures.ok)
+pub returns-in-Open : goal.returns-in-Open
+returns-in-Open g c =
+    let board = c.args.board.now in
+    let plain = c.args.plain.now in
+    let call = Open c.in-Open.handle c.in-Open.rail c.in-Open.exclusive in
+    let told = g.W.Wire.accepted c.args.wire.now in
+    let count = g.W.Wire.faults c.args.wire.now in
+    let untied = lone_untied board c.requires.lone in
+    let names = rw c.in-Open.is at c.requires.rail in
+    let performs = both_ok c.open.result _ _ (λ said. Performs board plain c.open.new.plain c.args.worker call said told told count count)
+    (λ said is calm. performs-still board plain c.open.new.plain c.args.worker call said told told count count is calm refl)
+    c.open.ensures.answer c.open.ensures.calm in
+    record {
+      performs = rw c.in-Open.is performs;
+      lawful = rw c.in-Open.is (IfOk-weaker c.open.result _ _
+          (λ said p. performed-lawful board c.requires.valid untied plain c.open.new.plain c.hold_fields.ensures c.requires.inv c.args.worker call tt said told told count count p) performs);
+      inv = IfOk-weaker c.open.result _ _
+          (λ said p. performed-inv board c.requires.valid untied plain c.open.new.plain c.hold_fields.ensures c.requires.inv c.args.worker call tt said told told count count p names) performs;
+      handles = c.open.ensures.handles;
+    }
 
 pub returns-in-Set : goal.returns-in-Set
-returns-in-Set g c = record {
-  performs = rw c.in-Set.is c.set.ensures.performs;
-  inv = c.set.ensures.inv;
-  handles = on_ok_weaker c.set.result (λ same. omega arith) c.set.ensures.handles;
-}
+returns-in-Set g c =
+    let board = c.args.board.now in
+    let plain = c.args.plain.now in
+    let call = Set c.in-Set.handle c.in-Set.lo c.in-Set.hi in
+    let told = g.W.Wire.accepted in
+    let count = g.W.Wire.faults in
+    let untied = lone_untied board c.requires.lone in
+    record {
+      performs = rw c.in-Set.is c.set.ensures.performs;
+      lawful = rw c.in-Set.is (IfOk-weaker c.set.result _ _
+          (λ said p. performed-lawful board c.requires.valid untied plain c.set.new.plain c.hold_fields.ensures c.requires.inv c.args.worker call tt said (told c.args.wire.now) (told c.set.new.wire) (count c.args.wire.now) (count c.set.new.wire) p) c.set.ensures.performs);
+      inv = IfOk-weaker c.set.result _ _
+          (λ said p. performed-inv board c.requires.valid untied plain c.set.new.plain c.hold_fields.ensures c.requires.inv c.args.worker call tt said (told c.args.wire.now) (told c.set.new.wire) (count c.args.wire.now) (count c.set.new.wire) p tt) c.set.ensures.performs;
+      handles = on_ok_weaker c.set.result (λ same. omega arith) c.set.ensures.handles;
+    }
 
 pub returns-in-Get : goal.returns-in-Get
-returns-in-Get g c = record {
-  performs = rw c.in-Get.is (performs_get c.args.board.now c.args.plain.now c.args.worker c.in-Get.handle c.get.result _ _ c.requires.inv.law c.get.ensures);
-  inv = c.requires.inv;
-  handles = omega arith;
-}
-
-pub returns-in-Open-clause-inv : goal.returns-in-Open-clause-inv
-returns-in-Open-clause-inv g c =
-    IfOk-weaker c.open.result _ _
-    (λ said is. inv_open c.args.board.now c.args.plain.now c.open.new.plain c.args.worker c.in-Open.handle c.in-Open.rail c.in-Open.exclusive said c.requires.inv (rw c.in-Open.is at c.requires.rail) is)
-    c.open.ensures.ok
-
-pub returns-in-Open-clause-handles : goal.returns-in-Open-clause-handles
-returns-in-Open-clause-handles g c =
-    IfOk-weaker c.open.result _ _
-    (λ said is. length-open c.args.plain.now c.open.new.plain c.args.worker c.in-Open.handle c.in-Open.rail c.in-Open.exclusive said is)
-    c.open.ensures.ok
+returns-in-Get g c =
+    let board = c.args.board.now in
+    let plain = c.args.plain.now in
+    let call : Call = Get c.in-Get.handle in
+    let told = g.W.Wire.accepted c.args.wire.now in
+    let count = g.W.Wire.faults c.args.wire.now in
+    let untied = lone_untied board c.requires.lone in
+    let performs = performs-still board plain plain c.args.worker call c.get.result told told count count c.get.ensures.answer c.get.ensures.calm refl in
+    record {
+      performs = rw c.in-Get.is performs;
+      lawful = rw c.in-Get.is (performed-lawful board c.requires.valid untied plain plain c.hold_fields.ensures c.requires.inv c.args.worker call tt c.get.result told told count count performs);
+      inv = c.requires.inv;
+      handles = omega arith;
+    }

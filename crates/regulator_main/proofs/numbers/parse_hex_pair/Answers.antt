@@ -1,4 +1,4 @@
-use Rattle.plain_board.specs.Text.{hex_text}
+use Rattle.rows.specs.Words.{hex_text}
 use Rattle.regulator_main.proofs.Separators.{not_split}
 use Rattle.regulator_main.proofs.Spaces.{first_differs, second_differs, Lacks-hex_text}
 use Rattle.regulator_main.proofs.numbers.parse_hex_pair.Goals as goal

@@ -1,4 +1,4 @@
-use Rattle.regulator_main.proofs.DemoFacts.{demo_inv}
+use Rattle.regulator_main.proofs.DemoInv.{demo_inv}
 use Rattle.regulator_main.proofs.play.play_board.Goals as goal
 
 pub play_on-requires-clause-inv : goal.play_on-requires-clause-inv

@@ -2,9 +2,10 @@ use Rattle.std.proofs.Common.{◌≡◌, ◌<◌, ◌≤◌, sym, subst, ap, ari
 use Rattle.std.proofs.lemmas.Bool.{ltb-true}
 use Rattle.std.proofs.lemmas.Result.{IfOk-weaker, on_ok_weaker}
 use Rattle.std.proofs.lemmas.List.Elements.{All-nil}
-use Rattle.plain_board.specs.History.{NamesRail, replay}
-use Rattle.plain_board.specs.Law.{Law}
-use Rattle.plain_board.specs.Text.{HasRails}
+use Rattle.rows.specs.Row.{NamesRail}
+use Rattle.plain_board.specs.History.{replay}
+use Rattle.rail_law.specs.Law.{Law}
+use Rattle.rows.specs.Row.{HasRails}
 use Rattle.regulator_main.specs.Front.{Runs}
 use Rattle.regulator_main.specs.Script.{PlaysWorker}
 use Rattle.regulator_main.proofs.Runs.{length-plays, none_first, runs_none, runs_sole, sole}

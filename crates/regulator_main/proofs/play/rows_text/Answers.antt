@@ -1,8 +1,8 @@
 use Rattle.std.proofs.Common.{ap, ◌∙◌, flat_map}
 use Rattle.std.proofs.lemmas.List.{take_all}
 use Rattle.std.proofs.lemmas.Result.{IfOk-from_err}
-use Rattle.plain_board.specs.History.{NamesRail}
-use Rattle.plain_board.specs.Text.{row_text, HasRails}
+use Rattle.rows.specs.Row.{NamesRail}
+use Rattle.rows.specs.Row.{row_text, HasRails}
 use Rattle.regulator_main.proofs.Scripts.{printed_more}
 use Rattle.regulator_main.proofs.Stopped.{all_read}
 use Rattle.regulator_main.proofs.play.rows_text.Goals as goal

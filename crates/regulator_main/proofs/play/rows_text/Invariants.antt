@@ -1,5 +1,5 @@
 use Rattle.std.proofs.Common.{◌≡◌, take, flat_map}
-use Rattle.plain_board.specs.Text.{row_text}
+use Rattle.rows.specs.Row.{row_text}
 use Rattle.regulator_main.proofs.play.rows_text.Given as goal
 
 -- the rows so far are printed

@@ -1,5 +1,5 @@
 use Rattle.std.proofs.Common.{◌&&◌, sym, ap, ◌∙◌, arith}
-use Rattle.plain_board.specs.Requests.{asks, meets_any}
+use Rattle.regulator_main.specs.Inside.Asked.{asks, meets_any}
 use Rattle.regulator_main.proofs.Bounds.{one_more}
 use Rattle.regulator_main.proofs.requests.bounds.Goals as goal
 

@@ -2,7 +2,8 @@ use Rattle.std.proofs.Common.{◌≡◌, ℕ, ◌∷◌, Some, take}
 use Rattle.std.specs.Prelude.{filter_map}
 use Rattle.std.specs.List.{list_all}
 use Rattle.board.specs.Rail.{is_within}
-use Rattle.plain_board.specs.Requests.{asks, meets}
+use Rattle.regulator_main.specs.Inside.Asked.{asks}
+use Rattle.plain_board.specs.Requests.{meets}
 use Rattle.regulator_main.proofs.requests.bounds.Given as goal
 
 -- the bounds are those of the requests so far

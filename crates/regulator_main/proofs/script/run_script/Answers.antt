@@ -1,8 +1,10 @@
 use Rattle.std.proofs.Common.{◌≡◌, ◌+◌, ◌∷◌, [], ◌++◌, ◌∙◌, List, refl, sym, subst, ap, arith, length, take}
 use Rattle.std.proofs.lemmas.List.{take_all}
 use Rattle.board.specs.declared.write.Write.{Write}
-use Rattle.plain_board.specs.declared.row.Row.{Row}
-use Rattle.plain_board.specs.History.{NamesRail, replay, rows_of}
+use Rattle.rows.specs.declared.row.Row.{Row}
+use Rattle.rows.specs.Row.{NamesRail}
+use Rattle.plain_board.specs.History.{replay, rows_of}
+use Rattle.plain_board.specs.Untied.{IsBuiltCall}
 use Rattle.regulator_main.specs.Script.{PlaysScript}
 use Rattle.regulator_main.proofs.Scripts.{row_of, plays_none, plays_more, replay_more, one_row_more}
 use Rattle.regulator_main.proofs.Stopped.{all_read}
@@ -32,7 +34,7 @@ loop-call-preserved g c =
       plays = subst (λ (rs : List Row). PlaysScript board c.args.plain.now c.args.worker (take (i + 1) c.args.script.now) rs (told c.args.wire.now) (told c.perform.new.wire) (count c.args.wire.now) (count c.perform.new.wire)) (sym (pushed g d))
           (plays_more board c.args.plain.now c.loop-call.plain c.perform.new.plain c.args.worker line c.call-item.result said rows
           (told c.args.wire.now) (told c.loop-call.wire) (told c.perform.new.wire) (count c.args.wire.now) (count c.loop-call.wire) (count c.perform.new.wire) before.replayed performs
-          c.args.script.now i c.in_ok-answer.ensures.inv.law before.plays (ap (λ n. n + 1) before.line) before.lines (all_read (NamesRail board) c.args.script.now i c.call-item.result c.requires.rails c.loop-call-test.true c.call-item.is) c.loop-call-test.true c.call-item.is);
+          c.args.script.now i c.in_ok-answer.ensures.lawful c.in_ok-answer.ensures.inv.law before.plays (ap (λ n. n + 1) before.line) before.lines (all_read (NamesRail board) c.args.script.now i c.call-item.result c.requires.rails c.loop-call-test.true c.call-item.is) c.loop-call-test.true c.call-item.is);
       replayed = replay_more board c.args.plain.now c.loop-call.plain c.perform.new.plain c.args.worker line c.call-item.result said rows
           (told c.args.wire.now) (told c.loop-call.wire) (told c.perform.new.wire) (count c.args.wire.now) (count c.loop-call.wire) (count c.perform.new.wire) before.replayed performs
           ∙ ap (replay board c.args.plain.now) (sym (pushed g d));
@@ -57,7 +59,10 @@ loop-call-init g c =
 pub perform-requires : goal.perform-requires
 perform-requires g c = record {
   valid = c.requires.valid;
+  lone = c.requires.lone;
   inv = c.loop-call.invariant.inv;
+  built = all_read IsBuiltCall _ _ _ c.requires.built c.loop-call-test.true c.call-item.is;
+  few = omega (arith, c.loop-call.invariant.handles, c.requires.short, c.loop-call-test.true);
   rail = all_read (NamesRail c.args.board.now) _ _ _ c.requires.rails c.loop-call-test.true c.call-item.is;
 }
 

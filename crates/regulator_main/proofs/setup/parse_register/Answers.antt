@@ -1,5 +1,5 @@
 use Rattle.std.proofs.Common.{◌≡◌, ◌∷◌, ◌++◌, [], decimal, ap, sym, ◌∙◌, drop}
-use Rattle.plain_board.specs.Text.{hex_text, spaced}
+use Rattle.rows.specs.Words.{hex_text, spaced}
 use Rattle.regulator_main.proofs.Separators.{not_split}
 use Rattle.regulator_main.proofs.Spaces.{first_differs, second_differs, Lacks-decimal}
 use Rattle.regulator_main.proofs.setup.parse_register.Goals as goal

@@ -1,7 +1,7 @@
 use Rattle.std.proofs.Common.{sym, ap, ◌∙◌}
 use Rattle.std.specs.Option.{option_map}
 use Rattle.linear_range.specs.Pick.{pair_of}
-use Rattle.regulator_main.proofs.Steps.{IsBelow, below-is, some_below, is_there, first_allowed}
+use Rattle.regulator_main.proofs.Steps.{IsBelow, below-is, some_below, is_there}
 use Rattle.regulator_main.proofs.walk.below.Goals as goal
 use Rattle.regulator_main.proofs.walk.below.Goals.{After-unwrap}
 
@@ -24,6 +24,3 @@ returns-clause-nearer c = (found (goal.at.returns-clause-nearer c).After-unwrap)
 
 pub returns-clause-not_past : goal.returns-clause-not_past
 returns-clause-not_past c = (found (goal.at.returns-clause-not_past c).After-unwrap).not_past
-
-pub returns-clause-lawful : goal.returns-clause-lawful
-returns-clause-lawful c = first_allowed c.args.rail.now (pair_of c.unwrap.result) (found (goal.at.returns-clause-lawful c).After-unwrap).first

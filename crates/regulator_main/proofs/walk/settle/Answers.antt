@@ -6,15 +6,13 @@ use Rattle.regulator_main.proofs.walk.settle.Goals as goal
 pub returns-then-uv-target : goal.returns-then-uv-target
 returns-then-uv-target g c = record {
   there = makes_none c.args.board.now c.args.id c.args.rail.now (uv c.args.rail.now c.args.regs.now) c.args.target c.args.regs.now (g.W.Wire.accepted c.args.wire.now)
-      (sym c.uv.ensures ∙ c.if-uv-target.true) c.requires.lawful;
+      (sym c.uv.ensures ∙ c.if-uv-target.true);
   counted = refl;
   selector = tt;
   before_the_end = tt;
   stopped = tt;
   fault = tt;
-  others = λ other apart. refl;
   chips = refl;
-  law = c.requires.lawful;
 }
 
 pub returns-in-Ok : goal.returns-in-Ok
@@ -27,9 +25,7 @@ returns-in-Ok g c =
       before_the_end = tt;
       stopped = tt;
       fault = tt;
-      others = rw c.in-Some.is done.others;
       chips = done.chips;
-      law = done.lawful;
     }
 
 pub returns-in-Err : goal.returns-in-Err
@@ -42,7 +38,5 @@ returns-in-Err g c =
       before_the_end = done.before_the_end;
       stopped = done.stopped;
       fault = done.fault;
-      others = rw c.in-Some.is done.others;
       chips = done.chips;
-      law = done.lawful;
     }

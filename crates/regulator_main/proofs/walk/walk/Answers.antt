@@ -1,14 +1,14 @@
-use Rattle.std.proofs.Common.{◌≡◌, ◌∷◌, Option, Some, refl, sym, ap, subst, ◌∙◌, arith, drop, length}
+use Rattle.std.proofs.Common.{◌≡◌, ◌∷◌, Option, refl, sym, ap, subst, ◌∙◌, arith, drop, length}
 use Rattle.std.specs.Prelude.{IfSome}
 use Rattle.reg_outside.specs.Count.{Rose}
 use Rattle.linear_range.specs.Pick.{pair_of}
 use Rattle.chip_regs.specs.declared.field.Field.{Field}
 use Rattle.chip_regs.specs.Field.{FitsField}
 use Rattle.board.specs.declared.part.Part.TheVariants.{Selector}
-use Rattle.board.specs.Rail.{uv, IsAllowed}
+use Rattle.board.specs.Rail.{uv}
 use Rattle.board.specs.Desc.{IsPlaced, HoldsSelectors}
-use Rattle.plain_board.specs.Moves.{Move, moves_to, selector_for}
-use Rattle.regulator_main.specs.Walk.{IsSameBeside}
+use Rattle.rail_law.specs.Moves.{Move, selector_for}
+use Rattle.regulator_main.specs.Inside.Way.{moves_to}
 use Rattle.regulator_main.proofs.Walked.{walked_none, within_from_rest, walked_more, rest_more, walked_all, selector_for-first, field_of_selector, fits_byte, uv_written, moves_to-step, none_left}
 use Rattle.regulator_main.proofs.walk.walk.Given as given
 use Rattle.regulator_main.proofs.walk.walk.Goals as goal
@@ -56,31 +56,25 @@ loop-at-preserved g c =
     let field_is = field_of_selector c.args.board.now c.args.id c.args.rail.now c.args.field (selector_for c.args.rail.now c.toward-pick.result.uv) c.requires.place c.requires.selector in
     let sel_is = selector_for-first c.args.rail.now (pair_of c.toward-pick.result) c.toward-pick.ensures.first in
     let at_is = uv_written c.args.rail.now c.args.field c.write_field.new.regs c.toward-pick.result.sel c.toward-pick.result.uv c.requires.selector done.reads (c.toward-pick.ensures.value c.requires.changeable) in
-    let others : IsSameBeside (Some c.args.field) c.args.regs.now c.write_field.new.regs = λ other apart. done.others other apart ∙ c.loop-at.invariant.others other apart in
     record {
-      walked = walked_more c.args.board.now c.args.rail.now moves c.args.regs.now c.loop-at.regs c.write_field.new.regs (g.W.Wire.accepted c.args.wire.now) (g.W.Wire.accepted c.loop-at.wire) (g.W.Wire.accepted c.write_field.new.wire) c.loop-at.made (move g d) rest
-          c.loop-at.invariant.walked (next_left g d) (rw (field_is, sel_is) done.registers) (rw (field_is, sel_is) done.told)
-          (subst (IsAllowed c.args.rail.now) at_is c.toward-pick.ensures.lawful, subst (λ (o : Option Field). IsSameBeside o c.args.regs.now c.write_field.new.regs) (sym c.requires.selector) others);
+      walked = walked_more c.args.board.now moves c.args.regs.now c.loop-at.regs c.write_field.new.regs (g.W.Wire.accepted c.args.wire.now) (g.W.Wire.accepted c.loop-at.wire) (g.W.Wire.accepted c.write_field.new.wire) c.loop-at.made (move g d) rest
+          c.loop-at.invariant.walked (next_left g d) (rw (field_is, sel_is) done.registers) (rw (field_is, sel_is) done.told);
       rest = rest_more moves c.loop-at.made (move g d) rest (next_left g d);
-      lawful = c.toward-pick.ensures.lawful;
       at = at_is;
       counted = done.counted ∙ c.loop-at.invariant.counted;
-      others = others;
       chips = done.chips ∙ c.loop-at.invariant.chips;
       bound = omega (arith, c.toward-pick.ensures.nearer, c.loop-at.invariant.bound);
     }
 
 pub returns : goal.returns
 returns g c = record {
-  there = walked_all c.args.board.now c.args.rail.now _ c.args.regs.now c.loop-at.regs (g.W.Wire.accepted c.args.wire.now) (g.W.Wire.accepted c.loop-at.wire) c.loop-at.made c.loop-at.invariant.walked
+  there = walked_all c.args.board.now _ c.args.regs.now c.loop-at.regs (g.W.Wire.accepted c.args.wire.now) (g.W.Wire.accepted c.loop-at.wire) c.loop-at.made c.loop-at.invariant.walked
       (none_left c.args.id c.args.rail.now c.loop-at.at c.args.target c.loop-at.made _ c.loop-at.invariant.rest c.loop-at-test.false);
   counted = c.loop-at.invariant.counted;
   before_the_end = tt;
   stopped = tt;
   fault = tt;
-  others = c.loop-at.invariant.others;
   chips = c.loop-at.invariant.chips;
-  lawful = subst (IsAllowed c.args.rail.now) c.loop-at.invariant.at c.loop-at.invariant.lawful;
 }
 
 pub returns-in_default : goal.returns-in_default
@@ -94,21 +88,17 @@ returns-in_default g c =
       before_the_end = within_from_rest _ c.loop-at.made (move g d) _ (next_left g d);
       stopped = rw (stop.same_registers, stop.not_told) before.walked.makes;
       fault = subst (λ n. Rose n (g.W.Wire.faults c.write_field.new.wire)) before.counted stop.fault;
-      others = λ other apart. stop.others other apart ∙ before.others other apart;
       chips = stop.chips ∙ before.chips;
-      lawful = subst (IsAllowed c.args.rail.now) (before.at ∙ ap (uv c.args.rail.now) (sym stop.same_registers)) before.lawful;
     }
 
 pub loop-at-init : goal.loop-at-init
 loop-at-init g c =
     let moves = moves_to c.args.id c.args.rail.now (uv c.args.rail.now c.args.regs.now) c.args.target in
     record {
-      walked = walked_none c.args.board.now c.args.rail.now moves c.args.regs.now (g.W.Wire.accepted c.args.wire.now) c.requires.lawful;
+      walked = walked_none c.args.board.now moves c.args.regs.now (g.W.Wire.accepted c.args.wire.now);
       rest = ap (λ v. moves_to c.args.id c.args.rail.now v c.args.target) c.uv-at.ensures;
-      lawful = rw c.uv-at.ensures c.requires.lawful;
       at = c.uv-at.ensures;
       counted = refl;
-      others = λ other apart. refl;
       chips = refl;
       bound = omega arith;
     }

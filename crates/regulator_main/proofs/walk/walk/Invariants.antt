@@ -1,8 +1,7 @@
-use Rattle.std.proofs.Common.{◌≡◌, ◌+◌, ◌≤◌, Some, drop, length}
+use Rattle.std.proofs.Common.{◌≡◌, ◌+◌, ◌≤◌, drop, length}
 use Rattle.std.specs.Int.{abs_diff}
-use Rattle.board.specs.Rail.{uv, IsAllowed}
-use Rattle.plain_board.specs.Moves.{moves_to}
-use Rattle.regulator_main.specs.Walk.{IsSameBeside}
+use Rattle.board.specs.Rail.{uv}
+use Rattle.regulator_main.specs.Inside.Way.{moves_to}
 use Rattle.regulator_main.proofs.Walked.{Walked}
 use Rattle.regulator_main.proofs.walk.walk.Given as goal
 
@@ -11,12 +10,10 @@ invariant-loop-at g l =
     let moves = moves_to l.fn.id l.rail (uv l.rail l.fn.regs) l.target in
     let told = g.W.Wire.accepted in
     record {
-      walked : Walked l.board l.rail moves l.fn.regs l.regs (told l.fn.wire) (told l.wire) l.made;
+      walked : Walked l.board moves l.fn.regs l.regs (told l.fn.wire) (told l.wire) l.made;
       rest : moves_to l.fn.id l.rail l.at l.target ≡ drop l.made moves;
-      lawful : IsAllowed l.rail l.at;
       at : l.at ≡ uv l.rail l.regs;
       counted : g.W.Wire.faults l.wire ≡ g.W.Wire.faults l.fn.wire;
-      others : IsSameBeside (Some l.field) l.fn.regs l.regs;
       chips : length l.regs ≡ length l.fn.regs;
       bound : l.made + abs_diff l.at l.target ≤ abs_diff l.initial.at l.target;
     }

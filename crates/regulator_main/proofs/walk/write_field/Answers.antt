@@ -16,7 +16,6 @@ returns g c =
       same_registers = tt;
       not_told = tt;
       fault = tt;
-      others = c.put.ensures.other_fields;
       chips = c.put.ensures.chips;
     }
 
@@ -31,7 +30,6 @@ returns-in_err-update g c =
       same_registers = refl;
       not_told = c.in_err-update.ensures.refused;
       fault = c.in_err-update.ensures.refused_counts;
-      others = λ other apart. refl;
       chips = refl;
     }
 

@@ -1,0 +1,14 @@
+//! What workers call, what they are answered, and the line that is printed of each.
+#![tactic(auto)]
+
+mod answer;
+mod answer_text;
+mod call;
+mod call_text;
+mod row;
+mod words;
+
+pub use answer::Answer;
+pub use call::Call;
+pub use row::Row;
+pub use words::{mode_text, on_text};
