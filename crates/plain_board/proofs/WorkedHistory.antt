@@ -179,6 +179,11 @@ kept_each : Keeps true coupled_board plain kept_history
 unfolding with_byte byte_of with_field field_of values time_of
 kept_each = (refl, (refl, (refl, (refl, tt))))
 
+-- what a row made depends on the rows before it: the rail comes back from where the first one took it
+kept_in_turn : Keeps true coupled_board plain (answered_row ∷ row 1 2 (Set a 800000 806250) (OkSet 800000 1) (to_selector 33 ∷ to_selector 32 ∷ []) ∷ [])
+unfolding with_byte byte_of with_field field_of values time_of
+kept_in_turn = (refl, (refl, tt))
+
 kept_not_each : ¬ Keeps true coupled_board plain history
 unfolding with_byte byte_of with_field field_of values time_of
 kept_not_each keeps = omega (arith, ap length keeps.1.1.0)
