@@ -21,14 +21,14 @@ from_taken (x ∷ set) i is = elim (or_cases _ _ is) [
   | inr there ↦ let rest = from_taken set i there in (suc rest.0, omega (arith, rest.1), rest.2)
 ]
 
-any_at : (test : ℕ → Bool) (set : List ℕ) (j : ℕ) → is_taken set j ≡ true → test j ≡ true → list_any test set ≡ true
+pub any_at : (test : ℕ → Bool) (set : List ℕ) (j : ℕ) → is_taken set j ≡ true → test j ≡ true → list_any test set ≡ true
 any_at test [] j taken passes = absurd (cc)
 any_at test (x ∷ set) j taken passes = elim (or_cases _ _ taken) [
   | inl here ↦ or_left _ _ (subst (λ y. test y ≡ true) (eqb-true j x here) passes)
   | inr there ↦ or_right _ _ (any_at test set j there passes)
 ]
 
-any_from : (test : ℕ → Bool) (set : List ℕ) → list_any test set ≡ true → (j : ℕ) × (is_taken set j ≡ true) × (test j ≡ true)
+pub any_from : (test : ℕ → Bool) (set : List ℕ) → list_any test set ≡ true → (j : ℕ) × (is_taken set j ≡ true) × (test j ≡ true)
 any_from test [] is = absurd (cc)
 any_from test (x ∷ set) is = elim (or_cases _ _ is) [
   | inl here ↦ (x, or_left _ _ (eq-eqb x x refl), here)
@@ -40,7 +40,7 @@ kept_by : (x i : ℕ) (set : List ℕ) (t : Bool) → is_taken set i ≡ true �
 kept_by x i set true taken = or_right _ _ taken
 kept_by x i set false taken = taken
 
-kept : (test : ℕ → Bool) (set : List ℕ) (i : ℕ) → is_taken set i ≡ true → test i ≡ true → is_taken (filter test set) i ≡ true
+pub kept : (test : ℕ → Bool) (set : List ℕ) (i : ℕ) → is_taken set i ≡ true → test i ≡ true → is_taken (filter test set) i ≡ true
 kept test [] i taken passes = absurd (cc)
 kept test (x ∷ set) i taken passes = elim (or_cases _ _ taken) [
   | inl here ↦ let e : test x ≡ true = subst (λ y. test y ≡ true) (eqb-true i x here) passes in rw e (or_left _ _ here)
@@ -55,7 +55,7 @@ passed_by test x i set others true is rest taken = elim (or_cases _ _ taken) [
 ]
 passed_by test x i set others false is rest taken = let both = rest taken in (or_right _ _ both.0, both.1)
 
-passed : (test : ℕ → Bool) (set : List ℕ) (i : ℕ) → is_taken (filter test set) i ≡ true → (is_taken set i ≡ true) × (test i ≡ true)
+pub passed : (test : ℕ → Bool) (set : List ℕ) (i : ℕ) → is_taken (filter test set) i ≡ true → (is_taken set i ≡ true) × (test i ≡ true)
 passed test [] i taken = absurd (cc)
 passed test (x ∷ set) i taken = passed_by test x i set (filter test set) (test x) refl (passed test set i) taken
 
@@ -70,7 +70,17 @@ ranged a (suc n) i from below = elim (cases_eq i a) [
 pub is_rail : (graph : Graph) (i : ℕ) → i < count_of graph → is_taken (rails_of graph) i ≡ true
 is_rail graph i below = ranged 0 (count_of graph) i (omega arith) (omega arith)
 
-rising_range : (a n : ℕ) → AllPairs (λ i j. i < j) (range_with_len a n)
+is_ranged : (a n i : ℕ) → is_taken (range_with_len a n) i ≡ true → i < a + n
+is_ranged a zero i taken = absurd (cc)
+is_ranged a (suc n) i taken = elim (or_cases _ _ taken) [
+  | inl here ↦ omega (arith, eqb-true i a here)
+  | inr there ↦ omega (arith, is_ranged (a + 1) n i there)
+]
+
+pub rail_is : (graph : Graph) (i : ℕ) → is_taken (rails_of graph) i ≡ true → i < count_of graph
+rail_is graph i taken = omega (arith, is_ranged 0 (count_of graph) i taken)
+
+pub rising_range : (a n : ℕ) → AllPairs (λ i j. i < j) (range_with_len a n)
 rising_range a zero = λ i j d less within. absurd (omega arith)
 rising_range a (suc n) =
     AllPairs-cons (λ i j. i < j) a (range_with_len (a + 1) n)
@@ -101,7 +111,7 @@ no_longer p (x ∷ set) = by (p x) (no_longer p set) where
   by false rest = omega arith
 
 -- a rail is taken in where it was there, or one that was there takes it in
-abbrev joins : (ℕ → ℕ → Bool) → List ℕ → ℕ → Bool
+abbrev pub joins : (ℕ → ℕ → Bool) → List ℕ → ℕ → Bool
 joins takes set i = is_taken set i || list_any (takes i) set
 
 joins_wider : (takes : ℕ → ℕ → Bool) (first second : List ℕ) → ((i : ℕ) → is_taken first i ≡ true → is_taken second i ≡ true)
@@ -129,7 +139,7 @@ module _ (graph : Graph) (takes : ℕ → ℕ → Bool) (r : ℕ) (below : r < c
       let both = passed (joins takes (stage n)) (rails_of graph) i taken in
       kept (joins takes (stage (suc n))) (rails_of graph) i both.0 (joins_wider takes (stage n) (stage (suc n)) (stays n) i both.1)
 
-  has_first : (n : ℕ) → is_taken (stage n) r ≡ true
+  pub has_first : (n : ℕ) → is_taken (stage n) r ≡ true
   has_first zero = or_left _ _ (eq-eqb r r refl)
   has_first (suc n) = stays n r (has_first n)
 
@@ -158,21 +168,20 @@ module _ (graph : Graph) (takes : ℕ → ℕ → Bool) (r : ℕ) (below : r < c
   settled zero count = absurd (omega arith)
   settled (suc n) count = settled_at n count
 
-  closed : (i j : ℕ) → i < count_of graph → takes i j ≡ true → is_taken (stage (count_of graph)) j ≡ true → is_taken (stage (count_of graph)) i ≡ true
+  pub closed : (i j : ℕ) → i < count_of graph → takes i j ≡ true → is_taken (stage (count_of graph)) j ≡ true → is_taken (stage (count_of graph)) i ≡ true
   closed i j rail takes_in taken =
       subst (λ set. is_taken set i ≡ true) (settled (count_of graph) refl)
       (kept (joins takes (stage (count_of graph))) (rails_of graph) i (is_rail graph i rail) (or_right _ _ (any_at (takes i) (stage (count_of graph)) j taken takes_in)))
 
-  -- what takes in all that it has to has it all
-  within : (other : List ℕ) → ((i j : ℕ) → takes i j ≡ true → is_taken other j ≡ true → is_taken other i ≡ true) → is_taken other r ≡ true
-      → (n i : ℕ) → is_taken (stage n) i ≡ true → is_taken other i ≡ true
-  within other such has zero i taken = elim (or_cases _ _ taken) [
-    | inl here ↦ subst (λ k. is_taken other k ≡ true) (sym (eqb-true i r here)) has
+  -- what holds of the rail, and of what takes in a rail of which it holds, holds of each
+  pub ever : (Holds : ℕ → Type 0) → Holds r → ((i j : ℕ) → takes i j ≡ true → Holds j → Holds i) → (n i : ℕ) → is_taken (stage n) i ≡ true → Holds i
+  ever Holds first next zero i taken = elim (or_cases _ _ taken) [
+    | inl here ↦ subst Holds (sym (eqb-true i r here)) first
     | inr there ↦ absurd (cc)
   ]
-  within other such has (suc n) i taken = elim (or_cases _ _ (passed (joins takes (stage n)) (rails_of graph) i taken).1) [
-    | inl here ↦ within other such has n i here
-    | inr there ↦ let by = any_from (takes i) (stage n) there in such i by.0 by.2 (within other such has n by.0 by.1)
+  ever Holds first next (suc n) i taken = elim (or_cases _ _ (passed (joins takes (stage n)) (rails_of graph) i taken).1) [
+    | inl here ↦ ever Holds first next n i here
+    | inr there ↦ let by = any_from (takes i) (stage n) there in next i by.0 by.2 (ever Holds first next n by.0 by.1)
   ]
 
   rises : (n : ℕ) → AllPairs (λ i j. i < j) (stage n)
@@ -186,7 +195,6 @@ module _ (graph : Graph) (takes : ℕ → ℕ → Bool) (r : ℕ) (below : r < c
   least_with Such makes gives = record {
     has = from_taken _ r (has_first (count_of graph));
     such = makes (λ i j rail takes_in has. from_taken _ i (closed i j rail takes_in (taken_from _ j has)));
-    least = λ other such has i in_set. from_taken other i
-        (within other (λ k j takes_in taken. taken_from other k (gives other such k j takes_in (from_taken other j taken))) (taken_from other r has) (count_of graph) i (taken_from _ i in_set));
+    least = λ other such has i in_set. ever (Contains other) has (gives other such) (count_of graph) i (taken_from _ i in_set);
     rising = rises (count_of graph);
   }

@@ -1,3 +1,4 @@
+pub mod Ways
 pub mod FailsBy
 pub mod WorkedGraphs
 pub mod WorkedOrders
@@ -9,3 +10,19 @@ pub mod Growth
 pub mod SetLaws
 pub mod OrderExists
 pub mod LoopsHaveNoOrder
+pub mod LoopLaws
+pub mod WorkedLoops
+pub mod BlockLemmas
+pub mod RisingLists
+pub mod AboveLemmas
+pub mod NetLemmas
+pub mod SetCalls
+pub mod TurnLemmas
+pub mod FeedNet
+pub mod OrderLemmas
+pub mod Pops
+pub mod WalkKept
+pub mod WalkOpened
+pub mod WalkClosed
+pub mod WalkFollowed
+pub mod WalkEnds

@@ -1,28 +1,16 @@
 -- A graph with an order has no loop of blocks.
-use Rattle.std.proofs.Common.{◌≡◌, ℕ, true, ◌⊎◌, inl, inr, List, [], ◌∷◌, ◌++◌, Some, refl, ◌∙◌, sym, subst, append_assoc}
+use Rattle.std.proofs.Common.{◌≡◌, ℕ, true, inl, inr, List, [], ◌∷◌, ◌++◌, Some, ◌∙◌, sym, subst, append_assoc}
 use Rattle.std.specs.Prelude.{flat_map, nat_eq}
 use Rattle.std.proofs.lemmas.Bool.{and_parts, or_cases}
 use Rattle.std.proofs.lemmas.List.Folds.{list_any-append}
 use Rattle.std.proofs.lemmas.List.{append-nil}
 use Rattle.std.proofs.lemmas.Option.{slice_get_within}
 use Rattle.board_graph.specs.declared.graph.Graph.{Graph}
-use Rattle.board_graph.specs.Ways.{IsWay, Leads}
+use Rattle.board_graph.specs.Ways.{Leads}
 use Rattle.board_graph.specs.Graph.{members, IsIn, Feeds, IsOnBlockLoop}
 use Rattle.board_graph.specs.Order.{is_taken, is_supplied, next_group, ComeInTurn, IsOrder}
+use Rattle.board_graph.proofs.Ways.{last_step}
 use Rattle.board_graph.proofs.Members.{is_member, member_is, all_at, next_is_ready, taken_at}
-
--- the last step of a way, and the way to it
-last_step : {Step : ℕ → ℕ → Type 0} (a b : ℕ) (between : List ℕ) → IsWay Step a between b → (via : ℕ) × Step via b × ((via ≡ a) ⊎ Leads Step a via)
-last_step a b [] way = (a, way, inl refl)
-last_step {Step} a b (via ∷ rest) way =
-    let there = last_step via b rest way.1 in (
-      there.0,
-      there.1,
-      elim there.2 [
-        | inl same ↦ inr (record { between = []; way = subst (λ x. Step a x) (sym same) way.0 })
-        | inr leads ↦ inr (record { between = via ∷ leads.between; way = (way.0, leads.way) })
-      ],
-    )
 
 -- what is on a loop has a step to it from what is on the loop
 before_on_loop : {Step : ℕ → ℕ → Type 0} (a : ℕ) → Leads Step a a → (via : ℕ) × Step via a × Leads Step via via

@@ -1,5 +1,5 @@
 -- Which rails a group has, which are taken, and which group comes next.
-use Rattle.std.proofs.Common.{◌≡◌, ℕ, zero, suc, ◌+◌, Bool, true, false, cond, ◌&&◌, ◌||◌, List, [], ◌∷◌, Option, Some, None, refl, sym, subst, arith, eq-eqb, eqb-true}
+use Rattle.std.proofs.Common.{◌≡◌, ℕ, zero, suc, ◌+◌, ◌<◌, Bool, true, false, cond, ◌&&◌, ◌||◌, List, [], ◌∷◌, Option, Some, None, refl, sym, ap, subst, arith, eq-eqb, eqb-true}
 use Rattle.std.specs.Prelude.{Contains, ◌==◌, map, filter, find, option_map, slice_get, nat_eq}
 use Rattle.std.specs.List.{enumerate_from, list_all}
 use Rattle.std.proofs.lemmas.Bool.{and_parts, or_right}
@@ -129,3 +129,41 @@ pub none_is_ready : (graph : Graph) (taken : List ℕ) (r g : ℕ) → next_grou
 none_is_ready graph taken r g none is =
     let number : 0 + r ≡ r = omega arith in
     subst (λ x. is_ready graph taken (x, g) ≡ false) number (not_found (is_ready graph taken) 0 graph.group r g none is)
+
+-- the first rail that passes
+first_found : (p : ℕ × ℕ → Bool) (n : ℕ) (xs : List ℕ) (k g : ℕ) → slice_get xs k ≡ Some g → p (n + k, g) ≡ true
+    → ((j h : ℕ) → j < k → slice_get xs j ≡ Some h → p (n + j, h) ≡ false) → group_by p n xs ≡ Some g
+first_found p n [] k g is passes before = absurd (cc)
+first_found p n (x ∷ xs) zero g is passes before =
+    let same : g ≡ x = cc in
+    let number : n + 0 ≡ n = omega arith in
+    let here : p (n, x) ≡ true = subst (λ y. p (n, y) ≡ true) same (subst (λ m. p (m, g) ≡ true) number passes) in
+    rw here (sym (ap Some same))
+first_found p n (x ∷ xs) (suc k) g is passes before =
+    let number : n + suc k ≡ n + 1 + k = omega arith in
+    let first : n + 0 ≡ n = omega arith in
+    let fails : p (n, x) ≡ false = subst (λ m. p (m, x) ≡ false) first (before 0 x (omega arith) refl) in
+    rw fails (first_found p (n + 1) xs k g is (subst (λ m. p (m, g) ≡ true) number passes)
+    (λ j h less there. let later : n + suc j ≡ n + 1 + j = omega arith in subst (λ m. p (m, h) ≡ false) later (before (suc j) h (omega arith) there)))
+
+none_found : (p : ℕ × ℕ → Bool) (n : ℕ) (xs : List ℕ) → ((j h : ℕ) → slice_get xs j ≡ Some h → p (n + j, h) ≡ false) → group_by p n xs ≡ None
+none_found p n [] none = refl
+none_found p n (x ∷ xs) none =
+    let first : n + 0 ≡ n = omega arith in
+    let fails : p (n, x) ≡ false = subst (λ m. p (m, x) ≡ false) first (none 0 x refl) in
+    rw fails (none_found p (n + 1) xs (λ j h there. let later : n + suc j ≡ n + 1 + j = omega arith in subst (λ m. p (m, h) ≡ false) later (none (suc j) h there)))
+
+pub ready_is_next : (graph : Graph) (taken : List ℕ) (r g : ℕ) → IsIn graph g r → is_ready graph taken (r, g) ≡ true
+    → ((q h : ℕ) → q < r → IsIn graph h q → is_ready graph taken (q, h) ≡ false) → next_group graph taken ≡ Some g
+ready_is_next graph taken r g in_group ready before =
+    let number : r ≡ 0 + r = omega arith in
+    first_found (is_ready graph taken) 0 graph.group r g in_group (subst (λ m. is_ready graph taken (m, g) ≡ true) number ready)
+    (λ q h less there. let other : q ≡ 0 + q = omega arith in subst (λ m. is_ready graph taken (m, h) ≡ false) other (before q h less there))
+
+pub none_ready_next : (graph : Graph) (taken : List ℕ) → ((q h : ℕ) → IsIn graph h q → is_ready graph taken (q, h) ≡ false) → next_group graph taken ≡ None
+none_ready_next graph taken none =
+    none_found (is_ready graph taken) 0 graph.group (λ q h there. let other : q ≡ 0 + q = omega arith in subst (λ m. is_ready graph taken (m, h) ≡ false) other (none q h there))
+
+pub all_from : (p : ℕ → Bool) (xs : List ℕ) → ((x : ℕ) → is_taken xs x ≡ true → p x ≡ true) → list_all p xs ≡ true
+all_from p [] each = refl
+all_from p (x ∷ xs) each = rw (each x (rw (eq-eqb x x refl) refl)) (all_from p xs (λ y taken. each y (or_right _ _ taken)))

@@ -10,16 +10,13 @@ use Rattle.std.proofs.lemmas.Option.{slice_get_within, slice_get-get_or}
 use Rattle.board_graph.specs.declared.graph.Graph.{Graph}
 use Rattle.board_graph.specs.Ways.{Leads}
 use Rattle.board_graph.specs.Graph.{count_of, IsGraph, supply_at, IsIn, members, Feeds, IsOnBlockLoop}
+use Rattle.board_graph.specs.Inside.Turns.{failing}
 use Rattle.board_graph.specs.Order.{is_taken, is_supplied, is_ready, next_group, ComeInTurn, IsOrder}
+use Rattle.board_graph.proofs.Ways.{step_leads}
 use Rattle.board_graph.proofs.Members.{is_member, member_is, one_fails, next_is_ready, none_is_ready, at_taken}
 
--- how many of the numbers below n fail
-abbrev failing : (ℕ → Bool) → ℕ → ℕ
-failing p zero = 0
-failing p (suc n) = cond (p n) 0 1 + failing p n
-
 -- what passes the first test passes the second
-abbrev Implies : (ℕ → Bool) → (ℕ → Bool) → Type 0
+abbrev pub Implies : (ℕ → Bool) → (ℕ → Bool) → Type 0
 Implies p q = (x : ℕ) → p x ≡ true → q x ≡ true
 
 no_more_fail : (p q : ℕ → Bool) → Implies p q → (n : ℕ) → failing q n ≤ failing p n
@@ -31,7 +28,7 @@ no_more_fail p q implies (suc n) =
       | false ↦ λ _. elim (q n) as (λ b. cond b 0 1 + failing q n ≤ 1 + failing p n) [ true ↦ omega (arith, before) | false ↦ omega (arith, before) ]
     ]) refl
 
-fewer_fail : (p q : ℕ → Bool) → Implies p q → (x n : ℕ) → x < n → p x ≡ false → q x ≡ true → failing q n < failing p n
+pub fewer_fail : (p q : ℕ → Bool) → Implies p q → (x n : ℕ) → x < n → p x ≡ false → q x ≡ true → failing q n < failing p n
 fewer_fail p q implies x zero within fails passes = absurd (omega arith)
 fewer_fail p q implies x (suc n) within fails passes = elim (cases_lt x n) [
   | inl below ↦
@@ -50,10 +47,6 @@ fewer_fail p q implies x (suc n) within fails passes = elim (cases_lt x n) [
 -- how many rails aren't in the list
 abbrev left : Graph → List ℕ → ℕ
 left graph taken = failing (is_taken taken) (count_of graph)
-
--- one step, and then the others
-step_leads : {Step : ℕ → ℕ → Type 0} (a b c : ℕ) → Step a b → Leads Step b c → Leads Step a c
-step_leads a b c step leads = record { between = b ∷ leads.between; way = (step, leads.way) }
 
 supply_below : (n : ℕ) (supplies : List (Option ℕ)) (r u : ℕ) → All (λ supply. IfSome supply (λ s. s < n)) supplies
     → option_and_then (λ supply. supply) (slice_get supplies r) ≡ Some u → u < n
@@ -95,7 +88,7 @@ waits graph is taken none r group in_group untaken =
     unsupplied graph is taken group there.0 (member_is graph group there.0 there.1) there.2
 
 -- no rail is on a loop of blocks
-abbrev HasNoLoop : Graph → Type 0
+abbrev pub HasNoLoop : Graph → Type 0
 HasNoLoop graph = (r : ℕ) → ¬ IsOnBlockLoop graph r
 
 -- the group feeds those of the rails that were seen
@@ -128,10 +121,10 @@ climbs graph is no_loop taken none (suc n) seen r group in_group untaken fed uns
     ]) refl
 
 -- every rail is among these
-abbrev AreTaken : Graph → List ℕ → Type 0
+abbrev pub AreTaken : Graph → List ℕ → Type 0
 AreTaken graph taken = (r : ℕ) → r < count_of graph → is_taken taken r ≡ true
 
-none_left : (graph : Graph) → IsGraph graph → HasNoLoop graph → (taken : List ℕ) → next_group graph taken ≡ None → AreTaken graph taken
+pub none_left : (graph : Graph) → IsGraph graph → HasNoLoop graph → (taken : List ℕ) → next_group graph taken ≡ None → AreTaken graph taken
 none_left graph is no_loop taken none r within =
     let in_group = slice_get-get_or graph.group r 0 within in
     (elim (is_taken taken r) as (λ b. is_taken taken r ≡ b → b ≡ true) [

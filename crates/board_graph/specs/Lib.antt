@@ -2,3 +2,5 @@ pub mod Ways
 pub mod Graph
 pub mod Order
 pub mod Sets
+pub mod Loops
+pub mod Inside

@@ -3,7 +3,11 @@
 #![tactic(auto)]
 
 #[cfg(test)]
+mod asked;
+#[cfg(test)]
 mod chips;
+#[cfg(test)]
+mod graphs;
 #[cfg(test)]
 mod items;
 #[cfg(test)]
