@@ -1,0 +1,11 @@
+mod ChildLemmas
+mod FormLemmas
+mod ModeLemmas
+mod WithinLemmas
+mod Trees
+mod WorkedForms
+mod WorkedBounds
+mod WorkedModes
+mod WorkedCoupling
+mod WorkedSleeps
+mod WorkedNodes

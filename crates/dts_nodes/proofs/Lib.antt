@@ -1,0 +1,4 @@
+mod NumberLemmas
+mod UseLemmas
+mod WorkedForms
+mod WorkedUse
