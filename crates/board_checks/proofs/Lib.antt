@@ -1,0 +1,10 @@
+pub mod Finds
+pub mod Rails
+pub mod LoadLaws
+pub mod Members
+pub mod GapLaws
+pub mod SleepLaws
+pub mod WidestGap
+pub mod WorkedGaps
+pub mod WorkedAsleep
+pub mod WorkedLoads

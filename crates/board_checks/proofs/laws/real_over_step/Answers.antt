@@ -1,0 +1,5 @@
+use Rattle.board_checks.proofs.GapLaws.{real_over_step as law}
+use Rattle.board_checks.proofs.laws.real_over_step.Goals as goal
+
+pub returns : goal.returns
+returns c = law
