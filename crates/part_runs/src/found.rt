@@ -2,6 +2,7 @@ ghost use Rattle.std.specs.Prelude.{◌≡◌, ◌≤◌, length};
 ghost use Rattle.dts_lex.specs.Lex.{lexed};
 
 use crate::node::{write_count, write_nodes, write_values, write_walks};
+use crate::rails::write_board;
 use dts_lex::{Kind, Token, is_last, lex};
 use dts_tree::parse;
 use std::alloc::{AllocError, Global};
@@ -21,6 +22,8 @@ pub(crate) enum Asked<'a> {
     Walk,
     /// How long each beginning of it is that has a tree.
     Prefixes,
+    /// The rails of its board.
+    Board,
 }
 
 /// Appends what is found in a text, or its first fault.
@@ -105,6 +108,7 @@ fn write_parsed(
             Asked::Values(property) => write_values(alloc, line, &tree, property.as_bytes()),
             Asked::Count => write_count(line, &tree, tokens.len()),
             Asked::Walk => write_walks(line, &tree),
+            Asked::Board => write_board(alloc, line, &tree),
             _ => write_nodes(line, &tree),
         },
         Err(fault) => write!(line, "{fault:?}"),

@@ -133,7 +133,8 @@ fn write_strings(
     }
 }
 
-fn push_bytes(line: &mut String, bytes: &[u8]) -> Result<(), AllocError> {
+/// Appends each byte as the character of its number.
+pub(crate) fn push_bytes(line: &mut String, bytes: &[u8]) -> Result<(), AllocError> {
     for b in bytes {
         line.push(*b as char)?;
     }

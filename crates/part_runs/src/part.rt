@@ -3,6 +3,7 @@
 pub(crate) enum Part {
     Rows,
     Count,
+    Board,
     Ranges,
 }
 
@@ -11,6 +12,7 @@ pub(crate) fn part_of(word: &str) -> Option<Part> {
     match word {
         "rows" => Some(Part::Rows),
         "count" => Some(Part::Count),
+        "board" => Some(Part::Board),
         "ranges" => Some(Part::Ranges),
         _ => None,
     }

@@ -22,8 +22,8 @@ struct Row<'a> {
 }
 
 /// A row is `tokens TEXT -> EXPECTED`, `tree TEXT -> EXPECTED`, `count TEXT -> EXPECTED`,
-/// `walk TEXT -> EXPECTED`, `prefixes TEXT -> EXPECTED`, `values TEXT -> PROPERTY -> EXPECTED`,
-/// `ranges ROUNDS -> SUM` or `word WORD -> PART`.
+/// `walk TEXT -> EXPECTED`, `prefixes TEXT -> EXPECTED`, `board TEXT -> EXPECTED`,
+/// `values TEXT -> PROPERTY -> EXPECTED`, `ranges ROUNDS -> SUM` or `word WORD -> PART`.
 fn read(line: &str) -> Option<Row<'_>> {
     let (word, rest) = line.split_once(' ')?;
     let (text, rest) = rest.split_once(" -> ")?;
@@ -33,6 +33,7 @@ fn read(line: &str) -> Option<Row<'_>> {
         "count" => (Wanted::Found(Asked::Count), rest),
         "walk" => (Wanted::Found(Asked::Walk), rest),
         "prefixes" => (Wanted::Found(Asked::Prefixes), rest),
+        "board" => (Wanted::Found(Asked::Board), rest),
         "ranges" => (Wanted::Ranges, rest),
         "word" => (Wanted::Word, rest),
         "values" => {
