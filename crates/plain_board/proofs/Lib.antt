@@ -31,6 +31,7 @@ mod WorkedKept
 mod WorkedLaw
 mod WorkedLoads
 mod WorkedSeen
+mod WorkedStops
 mod WorkedSupplied
 mod WorkedSuspended
 mod WorkedUntied

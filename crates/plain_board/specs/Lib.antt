@@ -8,6 +8,7 @@ pub mod Moved
 pub mod Answer
 pub mod History
 pub mod Law
+pub mod Stops
 pub mod Inv
 pub mod Seen
 pub mod Text
