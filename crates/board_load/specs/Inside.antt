@@ -1,0 +1,3 @@
+-- What serves the contracts inside the crate, and nobody has to believe.
+pub mod Targets
+pub mod Puts
