@@ -1,6 +1,6 @@
--- The two sides of a clause on an `Option`.
-use Rattle.std.proofs.Common.{Option, Some, None}
-use Rattle.std.specs.Prelude.{MatchOption, IfSome, IfNone}
+-- The two sides of a clause on an `Option`, and two clauses on a `Result`.
+use Rattle.std.proofs.Common.{Option, Some, None, Result, Ok, Err}
+use Rattle.std.specs.Prelude.{MatchOption, IfSome, IfNone, IfOk}
 
 -- the part of a clause that is said of a value
 pub some_part : {X : Type 0} (r : Option X) (P : Type 0) (Q : X → Type 0) → MatchOption r P Q → IfSome r Q
@@ -16,3 +16,8 @@ none_part (Some x) P Q h = tt
 pub none_then : {X : Type 0} (r : Option X) (P Q : Type 0) → IfNone r P → (P → Q) → IfNone r Q
 none_then None P Q h f = f h
 none_then (Some x) P Q h f = tt
+
+-- what follows of a value from two of its facts
+pub both_ok : {T E : Type 0} (r : Result T E) (P Q R : T → Type 0) → ((t : T) → P t → Q t → R t) → IfOk r P → IfOk r Q → IfOk r R
+both_ok (Ok t) P Q R follows p q = follows t p q
+both_ok (Err e) P Q R follows p q = tt

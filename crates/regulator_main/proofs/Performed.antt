@@ -20,8 +20,11 @@ use Rattle.plain_board.specs.Law.{Throughout}
 use Rattle.plain_board.specs.Untied.{IsUntied, IsBuiltCall, HoldFields}
 use Rattle.plain_board.proofs.CallLaws.{law_after_each_move_lem, calls_keep_inv_lem}
 use Rattle.plain_board.proofs.Throughout.{Throughout-take}
-use Rattle.regulator_main.specs.Desk.{Counts, Took, Performs}
-use Rattle.regulator_main.specs.Walk.{Updates, update_of}
+use Rattle.regulator_main.specs.Desk.{Counts, Took, Performs, tries_for}
+use Rattle.board_load.specs.BringUp.{Updates, update_of}
+use Rattle.reg_outside.specs.Plan.{Plan}
+use Rattle.regulator_main.specs.Walk.{Tried}
+use Rattle.regulator_main.proofs.Tries.{tried_still}
 
 -- an answer that is no fault tells no stop and no rail
 calm_stop : (said : Answer) → is_fault said ≡ false → stop_of said ≡ None
@@ -41,6 +44,24 @@ took_none board said moves told count calm none = record {
   faults = subst (λ fault. Counts fault count count) (sym calm) refl;
 }
 
+-- no update was tried
+pub tried_calm : (said : Answer) (moves : List Move) (plan : Option Plan) → is_fault said ≡ false → moves ≡ [] → Tried (tries_for moves said) plan plan
+tried_calm (Fault chip reg applied now) moves plan calm none = absurd cc
+tried_calm said moves plan calm none = tried_still moves plan none
+
+still_by : (board : Board) (plain : Plain) (worker : ℕ) (call : Call) (o : Option Answer) → moves_of_call board plain worker call ≡ [] → planned board plain worker call o ≡ []
+still_by board plain worker call None none = none
+still_by board plain worker call (Some refused) none = refl
+
+-- a call without moves plans none
+pub plan-still : (board : Board) (plain : Plain) (worker : ℕ) (call : Call) → moves_of_call board plain worker call ≡ [] → plan board plain worker call ≡ []
+plan-still board plain worker call none = still_by board plain worker call (refusal board plain worker call) none
+
+-- nor on a call that is refused
+pub tried-refused : (board : Board) (plain : Plain) (worker : ℕ) (call : Call) (said : Answer) (plan' : Option Plan) → refusal board plain worker call ≡ Some said → is_fault said ≡ false
+    → Tried (tries_for (plan board plain worker call) said) plan' plan'
+tried-refused board plain worker call said plan' refused calm = tried_calm said (plan board plain worker call) plan' calm (ap (planned board plain worker call) refused)
+
 module _ (board : Board) (plain plain' : Plain) (worker : ℕ) (call : Call) (said : Answer) (told told' : Option Updates) (count count' : ℕ) where
   -- a call is refused
   pub performs-refused : refusal board plain worker call ≡ Some said → is_fault said ≡ false → Performs board plain plain worker call said told told count count
@@ -49,15 +70,11 @@ module _ (board : Board) (plain plain' : Plain) (worker : ℕ) (call : Call) (sa
     took = took_none board said (plan board plain worker call) told count calm (ap (planned board plain worker call) refused);
   }
 
-  still_by : (o : Option Answer) → moves_of_call board plain worker call ≡ [] → planned board plain worker call o ≡ []
-  still_by None none = none
-  still_by (Some refused) none = refl
-
   -- a call makes no moves
   pub performs-still : answer board plain worker call None ≡ (said, plain') → is_fault said ≡ false → moves_of_call board plain worker call ≡ [] → Performs board plain plain' worker call said told told count count
   performs-still is calm none = record {
     answered = ap (answer board plain worker call) (calm_stop said calm) ∙ is;
-    took = took_none board said (plan board plain worker call) told count calm (still_by (refusal board plain worker call) none);
+    took = took_none board said (plan board plain worker call) told count calm (plan-still board plain worker call none);
   }
 
   -- a call makes these moves

@@ -1,19 +1,18 @@
 -- A script, one row more at a time.
-use Rattle.std.proofs.Common.{◌≡◌, ℕ, ◌+◌, ◌<◌, inl, Bool, true, false, cond, eqb, ltb, eq-eqb, List, [], ◌∷◌, ◌++◌, Option, Some, None, refl, sym, subst, ap, ◌∙◌, append_assoc, append-nil, zero-add, arith, length-append, map, length, get_or, take, flat_map}
-use Rattle.std.specs.Prelude.{All, count_by}
+use Rattle.std.proofs.Common.{◌≡◌, ℕ, ◌+◌, ◌<◌, inl, Bool, true, false, cond, eqb, ltb, eq-eqb, List, [], ◌∷◌, ◌++◌, Option, Some, None, refl, sym, subst, ap, ◌∙◌, append_assoc, append-nil, zero-add, arith, length-append, map, length, get_or, take}
+use Rattle.std.specs.Prelude.{count_by}
 use Rattle.std.proofs.lemmas.Bool.Decides.{nat_tests}
-use Rattle.std.proofs.lemmas.List.{take_more, map-append, flat_map_more}
-use Rattle.std.proofs.lemmas.List.Elements.{All-nil, All-cons, All-push, All-weaker, filter-append}
-use Rattle.std.proofs.lemmas.List.Sums.{sum_by-append}
+use Rattle.std.proofs.lemmas.List.{take_more, map-append}
+use Rattle.std.proofs.lemmas.List.Elements.{All-nil, All-push, filter-append}
+use Rattle.std.proofs.lemmas.List.Sums.{sum_by-append, sum_by-cons}
 use Rattle.reg_outside.specs.Count.{RoseBy}
 use Rattle.reg_outside.proofs.CountFacts.{RoseBy-zero, RoseBy-trans}
+use Rattle.reg_outside.specs.Plan.{Plan}
 use Rattle.reg_outside.specs.Told.{with_more}
 use Rattle.reg_outside.proofs.ToldFacts.{with_more-nil, with_more-with_more}
 use Rattle.board.specs.declared.board.Board.{Board}
-use Rattle.board.specs.declared.write.Write.{Write}
 use Rattle.rows.specs.declared.answer.Answer.{Answer}
 use Rattle.rows.specs.declared.call.Call.{Call}
-use Rattle.rows.specs.declared.call.Call.TheVariants.{Open, Set, Get}
 use Rattle.plain_board.specs.declared.plain.Plain.{Plain}
 use Rattle.rows.specs.declared.row.Row.{Row}
 use Rattle.plain_board.specs.Answer.{answer, plan}
@@ -23,22 +22,15 @@ use Rattle.rail_law.specs.Law.{Law}
 use Rattle.plain_board.specs.Law.{Throughout, LawHolds}
 use Rattle.rail_law.specs.Moves.{writes_of}
 use Rattle.rows.specs.Row.{HasRails}
-use Rattle.plain_board.specs.Untied.{IsBuiltCall}
-use Rattle.regulator_main.specs.Frame.{Uses, IsScript}
-use Rattle.regulator_main.specs.Desk.{Performs, Counts}
-use Rattle.regulator_main.specs.Script.{PlaysScript, turn_of, turns_of}
-use Rattle.regulator_main.specs.Walk.{Updates, update_of}
-
-pub replay-append : (board : Board) (plain : Plain) (xs ys : List Row) → replay board plain (xs ++ ys) ≡ replay board (replay board plain xs) ys
-replay-append board plain [] ys = refl
-replay-append board plain (x ∷ xs) ys = replay-append board (after board plain x) xs ys
-
-pub moved-append : (board : Board) (plain : Plain) (worker : ℕ) (xs ys : List Row) → moved board plain worker (xs ++ ys) ≡ moved board plain worker xs ++ moved board (replay board plain xs) worker ys
-moved-append board plain worker [] ys = refl
-moved-append board plain worker (x ∷ xs) ys =
-    let first : List Write = cond (eqb x.worker worker) (writes_of board (moves_of board plain x)) [] in
-    ap (λ rest. first ++ rest) (moved-append board (after board plain x) worker xs ys)
-    ∙ sym (append_assoc first (moved board (after board plain x) worker xs) (moved board (replay board (after board plain x) xs) worker ys))
+use Rattle.plain_board.specs.Stops.{Tries, one_if, tries_of}
+use Rattle.board_load.specs.BringUp.{Updates, update_of}
+use Rattle.regulator_main.specs.Desk.{Performs, Counts, tries_for}
+use Rattle.regulator_main.specs.Inside.Script.{PlaysScript, StaysInStep}
+use Rattle.regulator_main.specs.Playing.{turn_of, turns_of}
+use Rattle.regulator_main.specs.Walk.{Tried}
+use Rattle.regulator_main.proofs.Histories.{replay-append, moved-append, tries_of-append}
+use Rattle.regulator_main.proofs.Strays.{stops_in}
+use Rattle.regulator_main.proofs.Tries.{stays_more}
 
 legal-push : (board : Board) (plain : Plain) (before xs : List Row) (y : Row) → legal_after board plain before xs → IsNext board (replay board plain xs) (before ++ xs) y → legal_after board plain before (xs ++ y ∷ [])
 legal-push board plain before [] y legal next = (subst (λ (rows : List Row). IsNext board plain rows y) (append-nil before) next, tt)
@@ -89,10 +81,7 @@ faults_of-push worker line call said rows =
 -- a script of no line does nothing
 pub plays_none : (board : Board) (plain : Plain) (worker : ℕ) (told : Option Updates) (count : ℕ) → Law board plain.regs → PlaysScript board plain worker [] [] told told count count
 plays_none board plain worker told count law = record {
-  legal = tt;
-  in_order = refl;
-  keeps = All-nil (λ row. row.writes ≡ []);
-  lawful = law;
+  history = record { legal = tt; in_order = refl; keeps = All-nil (λ row. row.writes ≡ []); lawful = law };
   names = All-nil (λ row. NamesRail board row.call);
   rails = All-nil (λ row. HasRails board row.answer);
   moves = sym (with_more-nil told);
@@ -123,21 +112,23 @@ module _ (board : Board) (plain now plain' : Plain) (worker line : ℕ) (call : 
       → line ≡ i + 1 → length (rows_of worker rows) ≡ i → NamesRail board call → i < length script → call ≡ get_or script i call
       → PlaysScript board plain worker (take (i + 1) script) (rows ++ row_of worker line call said ∷ []) told told' count count'
   plays_more script i all law plays line_is lines names within here = record {
-    legal = legal-push board plain [] rows the_row plays.legal (subst (λ (p : Plain). IsNext board p rows the_row) is (record {
-      rail = names;
-      stop = performs.took.within;
-      answered = sym (ap (λ (p : Answer × Plain). p.0) performs.answered);
-      line = line_is ∙ ap (λ n. n + 1) (sym lines);
-      writes = inl refl;
-    }));
-    in_order =
-        map-append turn_of rows (the_row ∷ []) ∙ ap (λ turns. turns ++ (worker, call) ∷ []) plays.in_order
-        ∙ sym (ap (turns_of worker) (take_more script i call within ∙ ap (λ c. take i script ++ c ∷ []) (sym here)) ∙ map-append (λ (c : Call). (worker, c)) (take i script) (call ∷ []));
-    keeps = All-push (λ r. r.writes ≡ []) rows the_row plays.keeps refl;
-    lawful = law_push board plain rows the_row plays.lawful
-        (subst (λ (p : Plain). Throughout (Law board) board p.regs (moves_of board p the_row)) is all)
-        (subst (λ (p : Plain). Law board (after board p the_row).regs) is
-        (subst (λ (p : Plain). Law board p.regs) (sym (after_by board now plain' the_row (stop_of said) performs.took.within performs.answered)) law));
+    history = record {
+      legal = legal-push board plain [] rows the_row plays.history.legal (subst (λ (p : Plain). IsNext board p rows the_row) is (record {
+        rail = names;
+        stop = performs.took.within;
+        answered = sym (ap (λ (p : Answer × Plain). p.0) performs.answered);
+        line = line_is ∙ ap (λ n. n + 1) (sym lines);
+        writes = inl refl;
+      }));
+      in_order =
+          map-append turn_of rows (the_row ∷ []) ∙ ap (λ turns. turns ++ (worker, call) ∷ []) plays.history.in_order
+          ∙ sym (ap (turns_of worker) (take_more script i call within ∙ ap (λ c. take i script ++ c ∷ []) (sym here)) ∙ map-append (λ (c : Call). (worker, c)) (take i script) (call ∷ []));
+      keeps = All-push (λ r. r.writes ≡ []) rows the_row plays.history.keeps refl;
+      lawful = law_push board plain rows the_row plays.history.lawful
+          (subst (λ (p : Plain). Throughout (Law board) board p.regs (moves_of board p the_row)) is all)
+          (subst (λ (p : Plain). Law board (after board p the_row).regs) is
+          (subst (λ (p : Plain). Law board p.regs) (sym (after_by board now plain' the_row (stop_of said) performs.took.within performs.answered)) law));
+    };
     names = All-push (λ r. NamesRail board r.call) rows the_row plays.names names;
     rails = All-push (λ r. HasRails board r.answer) rows the_row plays.rails performs.took.rails;
     moves =
@@ -148,20 +139,26 @@ module _ (board : Board) (plain now plain' : Plain) (worker line : ℕ) (call : 
         (RoseBy-trans count between count' (faults_of worker rows) (cond (is_fault said) 1 0) plays.faults (rose_by (is_fault said) between count' performs.took.faults));
   }
 
--- a text that grows by what each item prints
-pub printed_more : {X : Type 0} (print : X → List ℕ) (xs : List X) (i : ℕ) (x : X) (text text' : List ℕ) → i < length xs → x ≡ get_or xs i x → text ≡ flat_map print (take i xs) → text' ≡ text ++ print x → text' ≡ flat_map print (take (i + 1) xs)
-printed_more print xs i x text text' within is before more =
-    more ∙ ap (λ t. t ++ print x) before ∙ flat_map_more print [] (take i xs) x
-    ∙ ap (flat_map print) (ap (λ y. take i xs ++ y ∷ []) is ∙ sym (take_more xs i x within))
+-- the plan of the wire counts one call more
+pub stays_by_call : (board : Board) (plain now : Plain) (worker line : ℕ) (call : Call) (said : Answer) (rows : List Row) (told mid told' : Option Plan) → now ≡ replay board plain rows
+    → StaysInStep (tries_of board plain worker rows) told mid → Tried (tries_for (plan board now worker call) said) mid told' → StaysInStep (tries_of board plain worker (rows ++ row_of worker line call said ∷ [])) told told'
+stays_by_call board plain now worker line call said rows told mid told' is stays tried =
+    let t = tries_for (plan board now worker call) said in
+    let one : tries_of board now worker (row_of worker line call said ∷ []) ≡ t ∷ [] = ap (λ own. cond own (t ∷ []) []) (eq-eqb worker worker refl) in
+    let all : tries_of board plain worker rows ++ t ∷ [] ≡ tries_of board plain worker (rows ++ row_of worker line call said ∷ []) =
+    ap (λ ts. tries_of board plain worker rows ++ ts) (sym one)
+    ∙ ap (λ p. tries_of board plain worker rows ++ tries_of board p worker (row_of worker line call said ∷ [])) is
+    ∙ sym (tries_of-append board plain worker rows (row_of worker line call said ∷ [])) in
+    subst (λ ts. StaysInStep ts told told') all (stays_more (tries_of board plain worker rows) t told mid told' stays tried)
 
--- what a script of today is made of
-built_use : (name : List ℕ) (call : Call) → Uses name call → IsBuiltCall call
-built_use name (Set handle lo hi) uses = tt
-built_use name (Get handle) uses = tt
-built_use name call uses = absurd uses
+stop_more : (own : Bool) (t : Tries) (ts : List Tries) (row : Row) (rows : List Row) → t.stopped ≡ is_fault row.answer → stops_in ts ≡ count_by (λ r. is_fault r.answer) rows
+    → stops_in (cond own (t ∷ ts) ts) ≡ count_by (λ r. is_fault r.answer) (cond own (row ∷ rows) rows)
+stop_more true t ts row rows same rest = ap (λ b. one_if b + stops_in ts) same ∙ ap (λ n. one_if (is_fault row.answer) + n) rest ∙ sym (sum_by-cons (λ r. cond (is_fault r.answer) 1 0) row rows)
+stop_more false t ts row rows same rest = rest
 
-pub built_calls : (script : List Call) → IsScript script → All IsBuiltCall script
-built_calls [] is = All-nil IsBuiltCall
-built_calls (Open handle rail exclusive ∷ calls) is =
-    All-cons IsBuiltCall (Open handle rail exclusive) calls tt (All-weaker (Uses handle.bytes) IsBuiltCall (built_use handle.bytes) calls is.3)
-built_calls (call ∷ calls) is = absurd is
+-- the stops of a worker are the faults of its rows
+pub stops_in-tries_of : (board : Board) (plain : Plain) (worker : ℕ) (rows : List Row) → stops_in (tries_of board plain worker rows) ≡ faults_of worker rows
+stops_in-tries_of board plain worker [] = refl
+stops_in-tries_of board plain worker (row ∷ rows) =
+    stop_more (eqb row.worker worker) (record { made = length (moves_of board plain row); stopped = is_fault row.answer }) (tries_of board (after board plain row) worker rows) row (rows_of worker rows) refl
+    (stops_in-tries_of board (after board plain row) worker rows)

@@ -1,5 +1,5 @@
 -- The only word of a command.
-use Rattle.std.proofs.Common.{ℕ, ◌≡◌, ◌<◌, ◌≤◌, Bool, true, false, List, [], ◌∷◌, length, get_or, eqb, map, sym, ap, ◌∙◌, arith}
+use Rattle.std.proofs.Common.{ℕ, ◌≡◌, ◌<◌, ◌≤◌, Bool, List, [], ◌∷◌, length, get_or, eqb, map, sym, ap, ◌∙◌, arith}
 use Rattle.std.specs.Bool.{IsTrue}
 use Rattle.std.specs.Cmp.Lexicographic.{pointwise}
 use Rattle.std.specs.Prelude.{◌↔◌}
@@ -17,6 +17,3 @@ pub is_word : (words : List (List ℕ)) (text target : List ℕ) (r : Bool) → 
 is_word words text target r test only =
     let decides = slice_eq-Decides Decides-eqb text target r test in
     (λ yes. only ∙ ap (λ t. t ∷ []) (decides.0 yes), λ is. decides.1 (ap (λ ws. get_or ws 0 []) (sym only ∙ is)))
-
-pub not_true : false ≡ true → ⊥
-not_true is = cc

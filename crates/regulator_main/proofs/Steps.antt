@@ -6,11 +6,11 @@ use Rattle.linear_range.specs.declared.pick.Pick.{Pick}
 use Rattle.linear_range.specs.Pick.{pair_of}
 use Rattle.linear_range.specs.Values.{pick_high, pick_low}
 use Rattle.board.specs.declared.rail.Rail.{Rail}
-use Rattle.board.specs.Rail.{allowed, choices, IsAllowed}
+use Rattle.board.specs.Rail.{allowed, choices}
 use Rattle.regulator_main.specs.Inside.Way.{stretch, way}
 use Rattle.regulator_main.proofs.Ordered.{has, upward, downward}
 use Rattle.regulator_main.proofs.Way.{stretch-step, stretch-same}
-use Rattle.regulator_main.proofs.Nearest.{lowest, highest, least_pair-is, greatest_pair-is, best_passes, best_among, best_first, best_preferred, best_some, find-has, IsFirst}
+use Rattle.regulator_main.proofs.Nearest.{lowest, highest, least_pair-is, greatest_pair-is, best_passes, best_among, best_first, best_preferred, best_some, IsFirst}
 
 pub way-rising : (values : List ℕ) (from to : ℕ) → leb from to ≡ true → way values from to ≡ stretch ltb values from to
 way-rising values from to rising = rw rising

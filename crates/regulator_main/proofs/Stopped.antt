@@ -1,5 +1,5 @@
 -- What a refused move leaves.
-use Rattle.std.proofs.Common.{◌≡◌, ℕ, ◌<◌, zero, suc, List, [], ◌∷◌, Some, refl, sym, subst, ap, ◌∙◌, arith, map, length, get_or}
+use Rattle.std.proofs.Common.{◌≡◌, ℕ, ◌<◌, zero, suc, List, [], ◌∷◌, Some, refl, subst, ap, ◌∙◌, arith, map, length}
 use Rattle.std.specs.Prelude.{slice_get, unwrap_or, option_map, All}
 use Rattle.std.proofs.lemmas.List.{length-map}
 use Rattle.std.proofs.lemmas.Option.{slice_get-map, get_or_from_slice_get}
@@ -46,7 +46,3 @@ get_within (y ∷ ys) (suc k) x is = let rest = get_within ys k x is in omega ar
 -- an element at a place has what all have
 pub all_at : {X : Type 0} (P : X → Type 0) (xs : List X) (k : ℕ) (x : X) → All P xs → slice_get xs k ≡ Some x → P x
 all_at P xs k x all is = subst P (get_or_from_slice_get xs k x x is) (all k x (get_within xs k x is))
-
--- an element that was read has what all have
-pub all_read : {X : Type 0} (P : X → Type 0) (xs : List X) (k : ℕ) (x : X) → All P xs → k < length xs → x ≡ get_or xs k x → P x
-all_read P xs k x all within is = subst P (sym is) (all k x within)

@@ -1,5 +1,5 @@
 -- The moves of a walk, one at a time.
-use Rattle.std.proofs.Common.{◌≡◌, append-nil, ℕ, ◌+◌, ◌*◌, ◌^◌, ◌/◌, ◌%◌, ◌<◌, ◌≤◌, ◌⊎◌, inl, inr, List, [], ◌∷◌, ◌++◌, Option, Some, refl, sym, subst, ap, ◌∙◌, arith, map, take, drop, length, get_or}
+use Rattle.std.proofs.Common.{◌≡◌, append-nil, ℕ, ◌+◌, ◌*◌, ◌^◌, ◌/◌, ◌%◌, ◌<◌, ◌≤◌, ◌⊎◌, inl, inr, List, [], ◌∷◌, ◌++◌, Option, Some, refl, sym, subst, ap, ◌∙◌, arith, map, take, drop, length, length-drop, get_or}
 use Rattle.std.specs.Prelude.{slice_get}
 use Rattle.std.proofs.Math.Nat.{div-le_self, div-mul-le_self, mod-eq_of_lt, mul-le-mul_right}
 use Rattle.std.proofs.lemmas.Bool.{cases_lt}
@@ -18,7 +18,8 @@ use Rattle.rail_law.specs.Moves.{Move, after_moves, writes_of, field_of_move, se
 use Rattle.regulator_main.specs.Inside.Way.{moves_to, way}
 use Rattle.reg_outside.specs.Told.{with_more}
 use Rattle.reg_outside.proofs.ToldFacts.{with_more-nil, with_more-with_more}
-use Rattle.regulator_main.specs.Walk.{Makes, Updates, update_of}
+use Rattle.board_load.specs.BringUp.{Updates, update_of}
+use Rattle.regulator_main.specs.Walk.{Makes}
 use Rattle.regulator_main.proofs.Nearest.{IsFirst}
 use Rattle.regulator_main.proofs.Steps.{way-same}
 
@@ -122,8 +123,16 @@ pub walked_all : (board : Board) (moves : List Move) (regs regs' : List (List �
 walked_all board moves regs regs' told told' made walked none =
     subst (λ (ms : List Move). Makes board ms regs regs' told told') (take_of_all made moves none) walked.makes
 
+-- no moves lead from where a rail stands to there
+pub moves_to-there : (id : RailId) (rail : Rail) (from to : ℕ) → from ≡ to → moves_to id rail from to ≡ []
+moves_to-there id rail from to there = ap (λ v. moves_to id rail v to) there ∙ moves_to-same id rail to
+
+-- where no move is left, so many were made as there are
+pub made_is_all : (made : ℕ) (moves : List Move) → made ≤ length moves → drop made moves ≡ [] → made ≡ length moves
+made_is_all made moves within none = omega (arith, within, length-drop made moves, ap length none)
+
 -- a rail that stands at its target makes no move
 pub makes_none : (board : Board) (id : RailId) (rail : Rail) (from to : ℕ) (regs : List (List ℕ)) (told : Option Updates) → from ≡ to → Makes board (moves_to id rail from to) regs regs told told
 makes_none board id rail from to regs told there =
-    subst (λ (moves : List Move). Makes board moves regs regs told told) (sym (ap (λ v. moves_to id rail v to) there ∙ moves_to-same id rail to))
+    subst (λ (moves : List Move). Makes board moves regs regs told told) (sym (moves_to-there id rail from to there))
     (record { registers = refl; updates = sym (with_more-nil told) })

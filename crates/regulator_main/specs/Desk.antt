@@ -1,5 +1,5 @@
 -- What the call of a worker does to the plain board and to the worker's wire.
-use Rattle.std.specs.Prelude.{ℕ, ◌≡◌, Bool, true, false, map, List, Option}
+use Rattle.std.specs.Prelude.{ℕ, ◌≡◌, Bool, true, false, map, length, List, Option}
 use Rattle.reg_outside.specs.Count.{Rose}
 use Rattle.reg_outside.specs.Told.{with_more}
 use Rattle.arrayvec.specs.ArrayString.{ArrayString}
@@ -11,11 +11,12 @@ use Rattle.rows.specs.declared.answer.Answer.{Answer}
 use Rattle.rows.specs.declared.call.Call.{Call}
 use Rattle.rows.specs.declared.call.Call.TheVariants.{Set}
 use Rattle.rows.specs.Row.{HasRails}
+use Rattle.board_load.specs.BringUp.{Updates, update_of}
 use Rattle.plain_board.specs.declared.plain.Plain.{Plain}
 use Rattle.plain_board.specs.Answer.{answer, plan, settled}
 use Rattle.plain_board.specs.History.{stop_of, IsWithinPlan, made_of, is_fault}
+use Rattle.plain_board.specs.Stops.{Tries}
 use Rattle.regulator_main.specs.Inside.Way.{moves_to}
-use Rattle.regulator_main.specs.Walk.{Updates, update_of}
 
 -- a fault was counted, or none was
 abbrev pub Counts : Bool → ℕ → ℕ → Type 0
@@ -29,6 +30,10 @@ pub record Took (board : Board) (moves : List Move) (said : Answer) (told told' 
   pub rails : HasRails board said
   pub updates : told' ≡ with_more told (map update_of (writes_of board (made_of (stop_of said) moves)))
   pub faults : Counts (is_fault said) count count'
+
+-- what a call with these moves tried, by its answer: those that it made and, where it was stopped, the next one
+abbrev pub tries_for : List Move → Answer → Tries
+tries_for moves said = record { made = length (made_of (stop_of said) moves); stopped = is_fault said }
 
 -- what a set does once its target is known: it is answered as on the plain board, and the wire took its moves
 pub record Moves (board : Board) (plain plain' : Plain) (worker : ℕ) (handle : ArrayString) (request : ℕ × ℕ) (rail : Rail) (target : ℕ) (said : Answer) (told told' : Option Updates) (count count' : ℕ) : Type 0 where

@@ -1,101 +1,91 @@
--- What `front` says: what was read, what was run, and what was written.
-use Rattle.std.specs.Prelude.{ℕ, false, ◌≡◌, ◌≢◌, ◌+◌, ◌<◌, ◌≤◌, List, [], ◌∷◌, ◌++◌, map, take, length, codes, Option, option_map}
-use Rattle.reg_outside.specs.Count.{RoseBy}
-use Rattle.reg_outside.specs.Told.{with_before, with_more, IsSpent}
-use Rattle.board.specs.declared.board.Board.{Board}
-use Rattle.rows.specs.declared.call.Call.{Call}
-use Rattle.rows.specs.declared.row.Row.{Row}
-use Rattle.plain_board.specs.History.{IsLegal, Keeps, moved, faults_of}
-use Rattle.plain_board.specs.Law.{LawHolds}
-use Rattle.plain_board.specs.Text.{printed}
-use Rattle.regulator_main.specs.declared.fault.SessionFault.{SessionFault}
-use Rattle.regulator_main.specs.declared.fault.SessionKind.TheVariants.{Memory as no_memory}
+-- What `front` and `top` say of a run of the program.
+use Rattle.std.specs.Prelude.{ℕ, ◌≡◌, ◌+◌, ◌⊎◌, List, length, slice_get, Some, None}
+use Rattle.reg_outside.specs.Count.{Rose, Stayed}
+use Rattle.board.specs.declared.write.Write.{Write}
+use Rattle.plain_board.specs.Stops.{is_planned}
+use Rattle.session.specs.declared.fault.SessionFault.{SessionFault}
+use Rattle.session.specs.declared.session.Session.{Session}
+use Rattle.session.specs.Session.{session_limit, IsSession, FirstFault}
 use Rattle.regulator_main.specs.declared.status.Status.{Status}
-use Rattle.regulator_main.specs.declared.status.Status.TheVariants.{Done, Memory, Words, ReadFault, WriteFault, SessionRefused}
-use Rattle.regulator_main.specs.Walk.{Updates, update_of}
-use Rattle.regulator_main.specs.Script.{turn_of, turns_of}
-use Rattle.regulator_main.specs.Demo.{IsDemo, demo_plain}
-use Rattle.regulator_main.specs.Session.{session_limit, IsSession, FirstFault, refusal_text}
+use Rattle.regulator_main.specs.declared.status.Status.TheVariants.{Done, Memory, Words, ReadFault, SessionRefused, LoadFault}
+use Rattle.regulator_main.specs.declared.words.Command.{Command}
+use Rattle.regulator_main.specs.declared.words.Command.TheVariants.{Check, Solo}
+use Rattle.regulator_main.specs.Bringing.{planned_stop}
+use Rattle.regulator_main.specs.Input.{TookAtMost}
+use Rattle.regulator_main.specs.Outside.{Outside, Reads, Writes}
+use Rattle.regulator_main.specs.Reply.{Replies}
+use Rattle.regulator_main.specs.Words.{AreWordsOf}
 
--- the words are the one command
-abbrev pub IsSolo : List (List ℕ) → Type 0
-IsSolo words = words ≡ codes "solo" ∷ []
+-- a text was read, and its reply was written
+pub record Answers (command : Command) (before after : Outside) (status : Status) : Type 0 where
+  pub bytes : List ℕ
+  pub text : List ℕ
+  pub end : Status
+  pub reads : Reads bytes before.input after.input
+  pub replies : Replies command bytes (record { text = text; end = end; before = before.wires; after = after.wires })
+  pub writes : Writes text end before.output after.output status
 
--- what was read: these bytes, and to the end, unless they are too many already
-pub record Reads (before after : Option (List ℕ)) (input : List ℕ) : Type 0 where
-  pub taken : before ≡ with_before input after
-  pub end : length input ≤ session_limit → IsSpent after
-  pub few : length input ≤ session_limit + 1
+-- there was no memory for it; nothing was written
+pub record WantsMemory (before after : Outside) (status : Status) : Type 0 where
+  pub took : TookAtMost (session_limit + 1) before.input.left after.input.left
+  pub calm : after.input.faults ≡ before.input.faults
+  pub output : after.output ≡ before.output
+  pub ends : status ≡ Memory
 
--- the calls of the scripts one after another, each with its worker, numbered from `worker` on
-abbrev pub turns : ℕ → List (List Call) → List (ℕ × Call)
-turns worker [] = []
-turns worker (script ∷ scripts) = turns_of worker script ++ turns (worker + 1) scripts
+-- the source failed; nothing was written, and no wire was used
+pub record CantRead (before after : Outside) (status : Status) : Type 0 where
+  pub took : TookAtMost (session_limit + 1) before.input.left after.input.left
+  pub rose : Rose before.input.faults after.input.faults
+  pub output : after.output ≡ before.output
+  pub wires : after.wires ≡ before.wires
+  pub ends : status ≡ ReadFault
 
--- One run of the scripts on the demo board: a history from the loaded board that has the scripts in
--- order, and what the lab's counts and lists, by number, say of it.
-pub record Runs (scripts : List (List Call)) (board : Board) (rows : List Row) (counts counts' : ℕ → ℕ) (lists lists' : ℕ → Option Updates) : Type 0 where
-  pub demo : IsDemo board
-  pub legal : IsLegal board demo_plain rows
-  pub in_order : map turn_of rows ≡ turns 1 scripts
-  pub keeps : Keeps false board demo_plain rows
-  -- the board is lawful at the start and after every single register write
-  pub lawful : LawHolds board demo_plain rows
-  -- each fault of a worker was counted under its number
-  pub faults : (worker : ℕ) → RoseBy (counts worker) (counts' worker) (faults_of worker rows)
-  -- the load wrote nothing, and counted no fault
-  pub loading : lists' 0 ≡ option_map (λ _. []) (lists 0)
-  pub loading_count : counts' 0 ≡ counts 0
-  -- each worker's wire took the moves that its rows made
-  pub moves : (worker : ℕ) → 1 ≤ worker → worker ≤ length scripts → lists' worker ≡ option_map (λ _. map update_of (moved board demo_plain worker rows)) (lists worker)
-  -- no other wire was used
-  pub other_counts : (n : ℕ) → length scripts < n → counts' n ≡ counts n
-  pub other_lists : (n : ℕ) → length scripts < n → lists' n ≡ lists n
+-- how a command goes
+abbrev pub CommandGoes : Command → Outside → Outside → Status → Type 0
+CommandGoes command before after status = Answers command before after status ⊎ WantsMemory before after status ⊎ CantRead before after status
 
--- Some bytes were read that are a session, its scripts were run, and what is printed of that history was written so.
-pub record Plays (left left' : Option (List ℕ)) (counts counts' : ℕ → ℕ) (lists lists' : ℕ → Option Updates) (Wrote : List ℕ → Type 0) : Type 0 where
-  pub input : List ℕ
-  pub scripts : List (List Call)
-  pub board : Board
-  pub rows : List Row
-  pub read : Reads left left' input
-  pub session : IsSession input scripts
-  pub run : Runs scripts board rows counts counts' lists lists'
-  pub wrote : Wrote (printed board demo_plain rows (length scripts))
+-- the words are no command, and nothing was done
+pub record IsNoCommand (words : List (List ℕ)) (before after : Outside) (status : Status) : Type 0 where
+  pub none : (command : Command) → AreWordsOf command words → ⊥
+  pub stays : after ≡ before
+  pub ends : status ≡ Words
 
--- some bytes were read whose first fault this is, its line was written so, and no wire was used
-pub record Refuses (left left' : Option (List ℕ)) (counts counts' : ℕ → ℕ) (lists lists' : ℕ → Option Updates) (fault : SessionFault) (Wrote : List ℕ → Type 0) : Type 0 where
-  pub input : List ℕ
-  pub read : Reads left left' input
-  pub first : FirstFault input fault
-  pub known : fault.kind ≢ no_memory
-  pub counts_stay : counts' ≡ counts
-  pub lists_stay : lists' ≡ lists
-  pub wrote : Wrote (refusal_text fault)
+-- the words are a command, and this is how it went
+pub record IsCommand (words : List (List ℕ)) (before after : Outside) (status : Status) : Type 0 where
+  pub command : Command
+  pub are : AreWordsOf command words
+  pub goes : CommandGoes command before after status
 
--- the text went out whole
-abbrev pub Whole : Option (List ℕ) → Option (List ℕ) → List ℕ → Type 0
-Whole before after text = after ≡ with_more before text
+-- how a run of the program goes
+abbrev pub Goes : List (List ℕ) → Outside → Outside → Status → Type 0
+Goes words before after status = IsNoCommand words before after status ⊎ IsCommand words before after status
 
--- the text went out up to this many bytes, and not whole
-abbrev pub CutAt : ℕ → Option (List ℕ) → Option (List ℕ) → List ℕ → Type 0
-CutAt kept before after text = (kept < length text) × (after ≡ with_more before (take kept text))
+-- the source tells these bytes, and neither it nor the sink fails
+pub record IsGiven (bytes : List ℕ) (before after : Outside) : Type 0 where
+  pub told : before.input.left ≡ Some bytes
+  pub source : Stayed before.input.faults after.input.faults
+  pub sink : Stayed before.output.faults after.output.faults
 
--- what holds of the fault of a refused session
-abbrev pub IfRefused : Status → (SessionFault → Type 0) → Type 0
-IfRefused (SessionRefused fault) P = P fault
-IfRefused _ P = Unit {0}
+-- where a session is given, it is checked or run, or there was no memory
+pub record AnswersSessions (words : List (List ℕ)) (before after : Outside) (status : Status) : Type 0 where
+  pub checked : (bytes : List ℕ) (session : Session) → AreWordsOf Check words → IsGiven bytes before after → IsSession bytes session
+      → (status ≡ Done) ⊎ (status ≡ Memory)
+  -- where the lab counts no fault of the load, it is made unless it is planned to be stopped, and then stopped there
+  pub run : (bytes : List ℕ) (session : Session) → AreWordsOf Solo words → IsGiven bytes before after → IsSession bytes session → Stayed (before.wires.counts 0) (after.wires.counts 0)
+      → planned_stop (is_planned session.refusals 0) (length session.loaded.writes) ≡ None
+      → (status ≡ Done) ⊎ (status ≡ Memory)
+  pub stopped : (bytes : List ℕ) (session : Session) → AreWordsOf Solo words → IsGiven bytes before after → IsSession bytes session → Stayed (before.wires.counts 0) (after.wires.counts 0)
+      → (made : ℕ) (write : Write) → planned_stop (is_planned session.refusals 0) (length session.loaded.writes) ≡ Some made → slice_get session.loaded.writes made ≡ Some write
+      → (status ≡ LoadFault write.chip write.reg) ⊎ (status ≡ Memory)
 
--- what holds of the bytes that went out before a write failed
-abbrev pub IfWriteFault : Status → (ℕ → Type 0) → Type 0
-IfWriteFault (WriteFault kept) P = P kept
-IfWriteFault _ P = Unit {0}
+-- and where a text with a fault is given, it is refused for that
+abbrev pub AnswersFaults : List (List ℕ) → Outside → Outside → Status → Type 0
+AnswersFaults words before after status =
+    (command : Command) (bytes : List ℕ) (fault : SessionFault) → AreWordsOf command words → IsGiven bytes before after → FirstFault bytes fault
+    → (status ≡ SessionRefused fault) ⊎ (status ≡ Memory)
 
--- the exit status of the program
-abbrev pub code_of : Status → ℕ
-code_of Done = 0
-code_of Memory = 1
-code_of Words = 2
-code_of ReadFault = 3
-code_of (WriteFault kept) = 4
-code_of (SessionRefused fault) = 5
+-- what a caller can rely on
+pub record IsRun (words : List (List ℕ)) (before after : Outside) (status : Status) : Type 0 where
+  pub goes : Goes words before after status
+  pub sessions : AnswersSessions words before after status
+  pub faults : AnswersFaults words before after status

@@ -1,6 +1,12 @@
--- The words of a line.
-use Rattle.std.specs.Prelude.{ℕ, ◌≡◌, ◌≢◌, ◌≤◌, List, length, slice_index}
+-- The commands, by their words.
+use Rattle.std.specs.Prelude.{ℕ, ◌≡◌, List, [], ◌∷◌, codes}
+use Rattle.regulator_main.specs.declared.words.Command.{Command}
+use Rattle.regulator_main.specs.declared.words.Command.TheVariants.{Check, Solo}
 
--- neither a plus sign stands in front nor a zero that isn't the whole number
-abbrev pub IsPlain : List ℕ → Type 0
-IsPlain word = (slice_index word 0 ≢ 43) × (slice_index word 0 ≡ 48 → length word ≤ 1)
+abbrev pub word_of : Command → List ℕ
+word_of Check = codes "check"
+word_of Solo = codes "solo"
+
+-- these words are the command
+abbrev pub AreWordsOf : Command → List (List ℕ) → Type 0
+AreWordsOf command words = words ≡ word_of command ∷ []

@@ -1,6 +1,6 @@
 ghost use Rattle.std.specs.Prelude.{◌≡◌, ◌<◌, ◌≤◌, ◌+◌, ◌^◌, ◌==◌, ◌∷◌, ◌++◌, [], None, Some, false, length, map, if◌then◌else◌, IfOk, OnOk};
 ghost use Rattle.board.specs.Lone.{IsLone};
-ghost use Rattle.board.specs.Rail.{IsAllowed};
+ghost use Rattle.board.specs.Rail.{uv, IsAllowed};
 ghost use Rattle.board.specs.Valid.{IsValid};
 ghost use Rattle.rows.specs.Row.{NamesRail};
 ghost use Rattle.rail_law.specs.Law.{Law};
@@ -10,7 +10,9 @@ ghost use Rattle.plain_board.specs.Law.{Throughout};
 ghost use Rattle.plain_board.specs.Handles.{open_of};
 ghost use Rattle.plain_board.specs.Inv.{Inv};
 ghost use Rattle.plain_board.specs.Untied.{IsBuiltCall, HoldFields};
-ghost use Rattle.regulator_main.specs.Desk.{Moves, Performs};
+ghost use Rattle.regulator_main.specs.Desk.{Moves, Performs, tries_for};
+ghost use Rattle.regulator_main.specs.Inside.Way.{moves_to};
+ghost use Rattle.regulator_main.specs.Walk.{Tried};
 
 use crate::requests::{bounds, count_own, excludes, kept_request, open_of, put_request};
 use crate::walk::settle;
@@ -106,6 +108,7 @@ fn move_to<W: Wire>(
     requires entry { open_of plain.old.handles worker handle.now.bytes ≡ Some entry.now }
     requires allowed { IsAllowed rail.now target }
     ensures moves { IfOk result (λ said. Moves board.now plain.old plain.new worker handle.now request rail.now target said (W.accepted wire.old) (W.accepted wire.new) (W.faults wire.old) (W.faults wire.new)) }
+    ensures tried { IfOk result (λ said. Tried (tries_for (moves_to (record { 0 = 0 }) rail.now (uv rail.now plain.old.regs) target) said) (W.plan wire.old) (W.plan wire.new)) }
     ensures handles { OnOk result (length plain.new.handles ≡ length plain.old.handles) }
 {
     let before = rail.uv(&plain.regs);
@@ -156,6 +159,7 @@ fn set<W: Wire>(
     requires fields { HoldFields board.now plain.old.regs }
     requires inv { Inv board.now plain.old }
     ensures performs { IfOk result (λ said. Performs board.now plain.old plain.new worker (Call.Set handle.now request.0 request.1) said (W.accepted wire.old) (W.accepted wire.new) (W.faults wire.old) (W.faults wire.new)) }
+    ensures tried { IfOk result (λ said. Tried (tries_for (plan board.now plain.old worker (Call.Set handle.now request.0 request.1)) said) (W.plan wire.old) (W.plan wire.new)) }
     ensures handles { OnOk result (length plain.new.handles ≡ length plain.old.handles) }
 {
     let Some(entry) = open_of(plain.handles.as_slice(), worker, handle) else {
@@ -240,6 +244,7 @@ pub(crate) fn perform<W: Wire>(
     requires built { IsBuiltCall call.now }
     requires few { length plain.old.handles < 2 ^ 32 }
     ensures performs { IfOk result (λ said. Performs board.now plain.old plain.new worker call.now said (W.accepted wire.old) (W.accepted wire.new) (W.faults wire.old) (W.faults wire.new)) }
+    ensures tried { IfOk result (λ said. Tried (tries_for (plan board.now plain.old worker call.now) said) (W.plan wire.old) (W.plan wire.new)) }
     ensures lawful { IfOk result (λ said. Throughout (Law board.now) board.now plain.old.regs (made_of (stop_of said) (plan board.now plain.old worker call.now))) }
     ensures inv { OnOk result (Inv board.now plain.new) }
     ensures handles { OnOk result (length plain.new.handles ≤ length plain.old.handles + 1) }

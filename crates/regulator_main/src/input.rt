@@ -5,10 +5,8 @@ ghost use Rattle.regulator_main.specs.Input.{TookAtMost};
 ghost use Rattle.regulator_main.specs.declared.input.InputError.TheVariants.{Failed as input_failed, Memory as input_memory};
 
 use reg_outside::{Failed, Source};
+use session::SESSION_LIMIT;
 use std::alloc::{AllocError, Global};
-
-/// The most bytes that a session may have.
-pub(crate) const SESSION_LIMIT: usize = 4_194_304;
 
 /// How many bytes are read at once.
 const PIECE: usize = 65_536;

@@ -1,7 +1,7 @@
-use crate::fault::SessionFault;
+use session::SessionFault;
 
 /// How a run of the program ended.
-#[derive(Clone, Copy, Debug, PartialEq, Eq)]
+#[derive(Clone, Copy, Debug)]
 pub enum Status {
     Done,
     Memory,
@@ -11,10 +11,12 @@ pub enum Status {
     /// `kept` bytes of the text went out.
     WriteFault { kept: u64 },
     SessionRefused(SessionFault),
+    /// The bus refused an update of the load, to this register.
+    LoadFault { chip: u8, reg: u8 },
 }
 
 ghost use Rattle.std.specs.Prelude.{◌≡◌};
-ghost use Rattle.regulator_main.specs.Front.{code_of};
+ghost use Rattle.regulator_main.specs.Status.{code_of};
 
 /// The exit status of the program.
 pub fn code(status: &Status) -> u8
@@ -27,5 +29,6 @@ pub fn code(status: &Status) -> u8
         Status::ReadFault => 3,
         Status::WriteFault { .. } => 4,
         Status::SessionRefused(_) => 5,
+        Status::LoadFault { .. } => 6,
     }
 }

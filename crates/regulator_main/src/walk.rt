@@ -9,7 +9,7 @@ ghost use Rattle.board.specs.Table.{uv_of};
 ghost use Rattle.board.specs.Rail.{allowed, choices, uv, IsAllowed};
 ghost use Rattle.board.specs.Valid.{IsSoundRail};
 ghost use Rattle.regulator_main.specs.Inside.Way.{way, moves_to};
-ghost use Rattle.regulator_main.specs.Walk.{Makes};
+ghost use Rattle.regulator_main.specs.Walk.{Makes, Tried, all_made, stopped_after};
 
 use board::{Board, Rail, RailId};
 use chip_regs::{Bits, Field, Regs};
@@ -75,6 +75,8 @@ fn write_field<W: Wire>(
     ensures same_registers { OnErr result (regs.new ≡ regs.old) }
     ensures not_told { OnErr result (W.accepted wire.new ≡ W.accepted wire.old) }
     ensures fault { OnErr result (Rose (W.faults wire.old) (W.faults wire.new)) }
+    ensures tried { OnOk result (Tried (all_made 1) (W.plan wire.old) (W.plan wire.new)) }
+    ensures tried_in_vain { OnErr result (Tried (stopped_after 0) (W.plan wire.old) (W.plan wire.new)) }
     ensures chips { length regs.new ≡ length regs.old }
 {
     wire.update(field.chip, field.reg, field.mask, bits << field.shift)?;
@@ -103,6 +105,8 @@ pub(crate) fn walk<W: Wire>(
     ensures before_the_end { IfErr result (λ made. made < length (moves_to id rail.now (uv rail.now regs.old) target)) }
     ensures stopped { IfErr result (λ made. Makes board.now (take made (moves_to id rail.now (uv rail.now regs.old) target)) regs.old regs.new (W.accepted wire.old) (W.accepted wire.new)) }
     ensures fault { OnErr result (Rose (W.faults wire.old) (W.faults wire.new)) }
+    ensures tried { OnOk result (Tried (all_made (length (moves_to id rail.now (uv rail.now regs.old) target))) (W.plan wire.old) (W.plan wire.new)) }
+    ensures tried_in_vain { IfErr result (λ made. Tried (stopped_after made) (W.plan wire.old) (W.plan wire.new)) }
     ensures chips { length regs.new ≡ length regs.old }
 {
     let mut at = rail.uv(regs);
@@ -137,6 +141,8 @@ pub(crate) fn settle<W: Wire>(
     ensures before_the_end { IfErr result (λ stop. stop.1 < length (moves_to id rail.now (uv rail.now regs.old) target)) }
     ensures stopped { IfErr result (λ stop. Makes board.now (take stop.1 (moves_to id rail.now (uv rail.now regs.old) target)) regs.old regs.new (W.accepted wire.old) (W.accepted wire.new)) }
     ensures fault { OnErr result (Rose (W.faults wire.old) (W.faults wire.new)) }
+    ensures tried { OnOk result (Tried (all_made (length (moves_to id rail.now (uv rail.now regs.old) target))) (W.plan wire.old) (W.plan wire.new)) }
+    ensures tried_in_vain { IfErr result (λ stop. Tried (stopped_after stop.1) (W.plan wire.old) (W.plan wire.new)) }
     ensures chips { length regs.new ≡ length regs.old }
 {
     if rail.uv(regs) == target {

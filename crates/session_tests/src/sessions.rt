@@ -2,11 +2,14 @@
 //! line.
 use crate::same::assert_same;
 use reg_outside::{Lab, MemLab, MemSink, MemSource, NullLab, Source};
-use regulator_main::{Status, code, front, one_reading};
+use regulator_main::{Status, code, front};
+use session::laws::one_reading;
 use std::alloc::{AllocError, Global};
 use std::process::Abort;
 
 const DEMO: &str = "%session 1|%board demo|";
+
+const DTS: &str = "%session 1|%board dts|";
 
 /// The words of a command.
 fn words_of(alloc: Global, text: &str) -> Result<Vec<String>, AllocError> {
@@ -67,21 +70,34 @@ struct Ended {
     written: Vec<u8>,
 }
 
-/// Runs a session.
-fn solo<L: Lab>(alloc: Global, text: &str, lab: &mut L) -> Result<Ended, AllocError> {
-    let mut source = MemSource::new(text.as_bytes().to_vec(alloc)?, Vec::new(alloc));
-    solo_of(alloc, &mut source, lab)
-}
-
-fn solo_of<L: Lab>(
+/// Runs a command on a session.
+fn outcome<L: Lab>(
     alloc: Global,
-    source: &mut MemSource,
+    words: &str,
+    text: &str,
     lab: &mut L,
 ) -> Result<Ended, AllocError> {
+    let mut source = MemSource::new(text.as_bytes().to_vec(alloc)?, Vec::new(alloc));
     let mut sink = MemSink::new(alloc, 1_000_000, Vec::new(alloc))?;
-    let status = said(alloc, "solo", source, &mut sink, lab)?;
+    let status = said(alloc, words, &mut source, &mut sink, lab)?;
     let written = sink.bytes().to_vec(alloc)?;
     Ok(Ended { status, written })
+}
+
+/// A command on a session ends like this, and writes this.
+fn assert_ends<L: Lab>(
+    rt: &impl Abort,
+    alloc: Global,
+    words: &str,
+    text: &str,
+    lab: &mut L,
+    status: u8,
+    written: &str,
+) -> Result<(), AllocError> {
+    let ended = outcome(alloc, words, text, lab)?;
+    assert_same(rt, text, code(&ended.status), status);
+    assert_same(rt, text, ended.written.as_slice(), written.as_bytes());
+    Ok(())
 }
 
 /// A session is refused for its first fault, which is told as its line and its kind.
@@ -91,21 +107,8 @@ fn assert_refused(
     text: &str,
     fault: &str,
 ) -> Result<(), AllocError> {
-    let ended = solo(alloc, text, &mut NullLab)?;
-    assert_same(rt, text, code(&ended.status), 5);
-    assert_refusal(rt, alloc, text, ended.written.as_slice(), fault)
-}
-
-fn assert_refusal(
-    rt: &impl Abort,
-    alloc: Global,
-    text: &str,
-    written: &[u8],
-    fault: &str,
-) -> Result<(), AllocError> {
     let refusal = format!(in alloc; "refused {fault}\n")?;
-    assert_same(rt, text, written, refusal.as_bytes());
-    Ok(())
+    assert_ends(rt, alloc, "solo", text, &mut NullLab, 5, refusal.as_str())
 }
 
 fn assert_each_refused(
@@ -137,24 +140,29 @@ const HEADS: &str = "\
     1 badsession: %session 1\n\
     1 badsession: %session 2|\n\
     2 badsession: %session 1|\n\
-    2 notyet: %session 1|%board dts|\n\
     2 badsession: %session 1|%board dts\n\
-    2 badsession: %session 1|%board dtb|\n";
+    2 badsession: %session 1|%board dtb|\n\
+    3 badsession: %session 1|%board dts|\n\
+    4 badsession: %session 1|%board dts|%end|\n\
+    4 badsession: %session 1|%board dts|/dts-v1/;|\n";
 
 /// The same of texts that begin with the demo board.
 const AFTER_BOARD: &str = "\
     3 badsession: \n\
-    3 notyet: %reg 0 0x20 0x01|\n\
-    3 notyet: %reg 4294967295 0xff 0x00|\n\
+    4 badsession: %reg 0 0x20 0x01|\n\
+    4 badsession: %reg 4294967295 0xff 0x00|\n\
     3 badsession: %reg 4294967296 0xff 0x00|\n\
     3 badsession: %reg 0 0x2 0x01|\n\
     3 badsession: %reg 0 0x20 0x0A|\n\
     3 badsession: %reg 00 0x20 0x01|\n\
     3 badsession: %reg 0  0x20 0x01|\n\
-    3 notyet: %fault 16 1|\n\
+    4 badsession: %fault 16 1|\n\
     3 badsession: %fault 17 1|\n\
     3 badsession: %fault 0 0|\n\
     3 badsession: %fault 0 1 |\n\
+    3 badreg: %reg 1 0x00 0x00|%done|\n\
+    4 badreg: %reg 0 0x20 0x01|%reg 1 0x00 0x00|%reg 2 0x00 0x00|%done|\n\
+    5 badsession: %reg 1 0x00 0x00|%done|x|\n\
     3 badsession: |\n\
     3 badsession: %end|\n\
     3 badsession: %worker\n\
@@ -187,17 +195,33 @@ const IN_WORKER: &str = "\
     5 notyet: open a core|enable a|\n\
     5 badsession: open a core|enable a\n\
     5 badsession: %end|\n\
-    5 notyet: %end|%worker|\n\
+    6 badsession: %end|%worker|\n\
     5 badsession: %end|%worker\n\
+    6 notyet: %end|%worker|get a|\n\
     5 badsession: %end|%end|\n\
     5 badsession: %end|%reg 0 0x20 0x01|\n\
     7 badsession: open a core|%end|%done|%done|\n\
     7 badsession: open a core|%end|%done|x\n";
 
+/// The same of texts whose board is a devicetree, which begins in line 3: of trees that make no board, and of boards
+/// that aren't built yet.
+const BOARDS: &str = "\
+    5 syntax 18: /dts-v1/;|/ { a {|%end|%done|\n\
+    2 supplyloop 0: /dts-v1/;|/ { v: v { compatible = \"regulator-fixed\"; vin-supply = <&w>; }; w: w { compatible = \"regulator-fixed\"; vin-supply = <&v>; }; };|%end|%done|\n\
+    2 norails: /dts-v1/;|%end|%done|\n\
+    3 badchar 0: !|%end|%done|\n\
+    4 nolabel 20: /dts-v1/; / {| x = <&y>;|};|%end|%done|\n\
+    2 onebound 0: /dts-v1/;|/ { pmic { compatible = \"example,pm4\"; regulators { buck1 { regulator-min-microvolt = <800000>; }; }; }; };|%end|%done|\n\
+    2 oneway 0 1: /dts-v1/;|/ { pmic { compatible = \"example,pm4\"; regulators { buck1 { regulator-coupled-with = <&b2>; regulator-coupled-max-spread = <100000>; }; b2: buck2 { }; }; }; };|%end|%done|\n\
+    2 gapoverspread 0 6250 6249: /dts-v1/;|/ { pmic@48 { compatible = \"example,pm4\"; regulators {|b1: buck1 { regulator-min-microvolt = <800000>; regulator-max-microvolt = <1000000>; regulator-coupled-with = <&b2>; regulator-coupled-max-spread = <6249>; };|b2: buck2 { regulator-min-microvolt = <800000>; regulator-max-microvolt = <1000000>; regulator-coupled-with = <&b1>; regulator-coupled-max-spread = <6249>; };|}; }; };|%end|%done|\n\
+    2 notyet: /dts-v1/;|/ { pmic@48 { compatible = \"example,pm4\"; regulators {|b1: buck1 { regulator-min-microvolt = <800000>; regulator-max-microvolt = <1000000>; regulator-coupled-with = <&b2>; regulator-coupled-max-spread = <100000>; };|b2: buck2 { regulator-min-microvolt = <800000>; regulator-max-microvolt = <1000000>; regulator-coupled-with = <&b1>; regulator-coupled-max-spread = <100000>; };|}; }; };|%end|%done|\n\
+    7 notyet: /dts-v1/;|/ { v { compatible = \"regulator-fixed\"; }; };|%end|%worker|open a v|\n";
+
 #[test]
 fn first_faults(rt: HostRuntime) -> Result<(), AllocError> {
     assert_each_refused(&rt, rt.alloc(), "", HEADS)?;
     assert_each_refused(&rt, rt.alloc(), DEMO, AFTER_BOARD)?;
+    assert_each_refused(&rt, rt.alloc(), DTS, BOARDS)?;
     let head = "%session 1|%board demo|%worker|";
     assert_each_refused(&rt, rt.alloc(), head, IN_WORKER)
 }
@@ -223,6 +247,13 @@ fn assert_long_refused(
 /// A worker that opens `a`.
 const OPENED: &str = "%session 1|%board demo|%worker|open a core|";
 
+/// More workers than there may be.
+#[test]
+fn too_many_workers(rt: HostRuntime) -> Result<(), AllocError> {
+    let text = long_text(rt.alloc(), DEMO, "%worker|%end|", 16, "%worker|")?;
+    assert_refused(&rt, rt.alloc(), text.as_str(), "35 toomanyworkers")
+}
+
 /// A worker with more call lines than it may have.
 #[test]
 fn too_many_lines(rt: HostRuntime) -> Result<(), AllocError> {
@@ -242,27 +273,12 @@ fn another_form_is_too_many(rt: HostRuntime) -> Result<(), AllocError> {
 fn most_lines(rt: HostRuntime) -> Result<(), AllocError> {
     let last = "set a 800000 4294967295|%end|%done|";
     let text = long_text(rt.alloc(), OPENED, "get a|", 4094, last)?;
-    let ended = solo(rt.alloc(), text.as_str(), &mut NullLab)?;
+    let ended = outcome(rt.alloc(), "solo", text.as_str(), &mut NullLab)?;
     let end = "1 4096 set a 800000 4294967295 -> ok 800000 0\n\
         rail core off 800000 normal use 0 enables 0\n\
         done 1 4096\n";
-    assert_same(&rt, "status", ended.status, Status::Done);
+    assert_same(&rt, "status", code(&ended.status), 0);
     assert!(rt; ended.written.as_slice().ends_with(end.as_bytes()));
-    Ok(())
-}
-
-/// A session on the demo board is run, and this is printed of it.
-fn assert_played<L: Lab>(
-    rt: &impl Abort,
-    alloc: Global,
-    lab: &mut L,
-    lines: &str,
-    printed: &str,
-) -> Result<(), AllocError> {
-    let text = text_of(alloc, DEMO, lines)?;
-    let ended = solo(alloc, text.as_str(), lab)?;
-    assert_same(rt, lines, ended.status, Status::Done);
-    assert_same(rt, lines, ended.written.as_slice(), printed.as_bytes());
     Ok(())
 }
 
@@ -321,9 +337,177 @@ const HISTORIES: &[(&str, &str)] = &[
 #[test]
 fn histories(rt: HostRuntime) -> Result<(), AllocError> {
     for &(lines, printed) in HISTORIES {
-        assert_played(&rt, rt.alloc(), &mut NullLab, lines, printed)?;
+        assert_row(&rt, rt.alloc(), &("solo", DEMO, lines, 0, printed))?;
     }
     Ok(())
+}
+
+/// A command, the beginning of a session and the lines after it, the exit status, and what is written.
+type Row = (&'static str, &'static str, &'static str, u8, &'static str);
+
+fn assert_row(rt: &impl Abort, alloc: Global, row: &Row) -> Result<(), AllocError> {
+    let text = text_of(alloc, row.1, row.2)?;
+    assert_ends(rt, alloc, row.0, text.as_str(), &mut NullLab, row.3, row.4)
+}
+
+/// A board of a chip and a fixed rail, whose load is one update: it brings buck3 to 1500000 µV.
+const BOARD_S: &str = "%session 1|%board dts|/dts-v1/;|\
+    / { vbat: vbat { compatible = \"regulator-fixed\"; regulator-min-microvolt = <5000000>; regulator-max-microvolt = <5000000>; };|\
+    pmic@48 { compatible = \"example,pm4\"; vin3-supply = <&vbat>; vinl1-supply = <&b3>; regulators {|\
+    b3: buck3 { regulator-min-microvolt = <1500000>; regulator-max-microvolt = <1500000>; };|\
+    ldo1 { regulator-min-microvolt = <1200000>; regulator-max-microvolt = <3300000>; };|\
+    }; }; };|%end|";
+
+const S_LOADED: &str = "\
+    rail buck3 off 1500000 normal use 0 enables 0\n\
+    rail ldo1 off 1200000 normal use 0 enables 0\n\
+    rail vbat off 5000000 normal use 0 enables 0\n\
+    done 1 0\n";
+
+/// Two workers on one rail.
+const TWO_WORKERS: &str = "\
+    %worker|open a core|set a 900001 950000|%end|\
+    %worker|open b core|get b|set b 950001 1000000|%end|%done|";
+
+/// The same, where the second update of the first worker is refused.
+const SECOND_REFUSED: &str = "%fault 1 2|\
+    %worker|open a core|set a 900001 950000|%end|\
+    %worker|open b core|get b|set b 850000 900000|%end|%done|";
+
+const ROWS: &[Row] = &[
+    ("check", BOARD_S, "%worker|%end|%done|", 0, S_LOADED),
+    ("solo", BOARD_S, "%worker|%end|%done|", 0, S_LOADED),
+    (
+        "check",
+        BOARD_S,
+        "%fault 0 1|%worker|%end|%done|",
+        0,
+        S_LOADED,
+    ),
+    (
+        "solo",
+        BOARD_S,
+        "%fault 0 1|%worker|%end|%done|",
+        6,
+        "loadfault 0 0x12\n",
+    ),
+    (
+        "solo",
+        BOARD_S,
+        "%fault 0 2|%fault 1 1|%worker|%end|%done|",
+        0,
+        S_LOADED,
+    ),
+    (
+        "check",
+        DEMO,
+        "%reg 0 0x20 0x01|%done|",
+        0,
+        "rail core on 800000 normal use 1 enables 0\n\
+        done 0 0\n",
+    ),
+    (
+        "solo",
+        DEMO,
+        "%reg 0 0x20 0x01|%done|",
+        0,
+        "rail core on 800000 normal use 1 enables 0\n\
+        done 0 0\n",
+    ),
+    (
+        "check",
+        DEMO,
+        TWO_WORKERS,
+        0,
+        "rail core off 800000 normal use 0 enables 0\n\
+        done 2 0\n",
+    ),
+    (
+        "solo",
+        DEMO,
+        TWO_WORKERS,
+        0,
+        "1 1 open a core -> ok\n\
+        1 2 set a 900001 950000 -> ok 906250 9\n\
+        2 1 open b core -> ok\n\
+        2 2 get b -> ok 906250\n\
+        2 3 set b 950001 1000000 -> novalue\n\
+        rail core off 906250 normal use 0 enables 0\n\
+        done 2 5\n",
+    ),
+    (
+        "solo",
+        DEMO,
+        SECOND_REFUSED,
+        0,
+        "1 1 open a core -> ok\n\
+        1 2 set a 900001 950000 -> fault 0 0x10 1 core 806250\n\
+        2 1 open b core -> ok\n\
+        2 2 get b -> ok 806250\n\
+        2 3 set b 850000 900000 -> ok 850000 4\n\
+        rail core off 850000 normal use 0 enables 0\n\
+        done 2 5\n",
+    ),
+    (
+        "check",
+        DEMO,
+        "%reg 1 0x00 0x00|%done|",
+        5,
+        "refused 3 badreg\n",
+    ),
+];
+
+#[test]
+fn commands_on_boards(rt: HostRuntime) -> Result<(), AllocError> {
+    for row in ROWS {
+        assert_row(&rt, rt.alloc(), row)?;
+    }
+    Ok(())
+}
+
+/// `solo` makes the one update of the load, on the load's wire; `check` makes none.
+#[test]
+fn updates_of_the_load(rt: HostRuntime) -> Result<(), AllocError> {
+    let text = text_of(rt.alloc(), BOARD_S, "%worker|%end|%done|")?;
+    let mut lab = MemLab::new(rt.alloc(), 1, 10)?;
+    assert_ends(
+        &rt,
+        rt.alloc(),
+        "check",
+        text.as_str(),
+        &mut lab,
+        0,
+        S_LOADED,
+    )?;
+    assert_same(&rt, "check", lab.list(0).len(), 0);
+    assert_ends(
+        &rt,
+        rt.alloc(),
+        "solo",
+        text.as_str(),
+        &mut lab,
+        0,
+        S_LOADED,
+    )?;
+    let taken = [(0, 0x12, 0x1f, 0x0e)];
+    assert_same(&rt, "solo", lab.list(0), taken.as_slice());
+    Ok(())
+}
+
+/// Without room for an update the bus itself refuses the load.
+#[test]
+fn the_bus_refuses_the_load(rt: HostRuntime) -> Result<(), AllocError> {
+    let text = text_of(rt.alloc(), BOARD_S, "%worker|%end|%done|")?;
+    let mut lab = MemLab::new(rt.alloc(), 1, 0)?;
+    assert_ends(
+        &rt,
+        rt.alloc(),
+        "solo",
+        text.as_str(),
+        &mut lab,
+        6,
+        "loadfault 0 0x12\n",
+    )
 }
 
 /// With room for one update the second is refused: the rail stands where the first brought it.
@@ -337,8 +521,9 @@ fn the_wire_refuses(rt: HostRuntime) -> Result<(), AllocError> {
         1 4 get a -> ok 806250\n\
         rail core off 806250 normal use 0 enables 0\n\
         done 1 4\n";
+    let text = text_of(rt.alloc(), DEMO, lines)?;
     let mut lab = MemLab::new(rt.alloc(), 1, 1)?;
-    assert_played(&rt, rt.alloc(), &mut lab, lines, printed)?;
+    assert_ends(&rt, rt.alloc(), "solo", text.as_str(), &mut lab, 0, printed)?;
     assert_same(&rt, "the load", lab.list(0).len(), 0);
     let taken = [(0, 0x10, 0x7f, 33)];
     assert_same(&rt, "the worker", lab.list(1), taken.as_slice());
@@ -357,19 +542,27 @@ fn assert_ended(
     alloc: Global,
     words: &str,
     source: &mut MemSource,
-    status: Status,
+    status: u8,
     written: &str,
-) -> Result<(), AllocError> {
+) -> Result<Status, AllocError> {
     let mut sink = MemSink::new(alloc, 5, Vec::new(alloc))?;
     let found = said(alloc, words, source, &mut sink, &mut NullLab)?;
-    assert_same(rt, words, found, status);
+    assert_same(rt, words, code(&found), status);
     assert_same(rt, words, sink.bytes(), written.as_bytes());
-    Ok(())
+    Ok(found)
 }
 
 #[test]
 fn other_words(rt: HostRuntime) -> Result<(), AllocError> {
-    for words in ["", "x", "solo x"] {
+    for words in [
+        "",
+        "x",
+        "solo x",
+        "check x",
+        "run",
+        "gen 0",
+        "solo --writes",
+    ] {
         assert_untouched(&rt, rt.alloc(), words)?;
     }
     Ok(())
@@ -378,24 +571,29 @@ fn other_words(rt: HostRuntime) -> Result<(), AllocError> {
 /// These words are no command, so nothing is read.
 fn assert_untouched(rt: &impl Abort, alloc: Global, words: &str) -> Result<(), AllocError> {
     let mut source = idle(alloc, Vec::new(alloc))?;
-    assert_ended(rt, alloc, words, &mut source, Status::Words, "")?;
+    assert_ended(rt, alloc, words, &mut source, 2, "")?;
     assert_same(rt, words, source.read(&mut [0]), Ok(1));
     Ok(())
 }
 
 #[test]
 fn the_second_read_fails(rt: HostRuntime) -> Result<(), AllocError> {
-    let fail = vec![in rt.alloc(); 2]?;
-    let mut source = idle(rt.alloc(), fail)?;
-    let status = Status::ReadFault;
-    assert_ended(&rt, rt.alloc(), "solo", &mut source, status, "")
+    for words in ["check", "solo"] {
+        let fail = vec![in rt.alloc(); 2]?;
+        let mut source = idle(rt.alloc(), fail)?;
+        assert_ended(&rt, rt.alloc(), words, &mut source, 3, "")?;
+    }
+    Ok(())
 }
 
 #[test]
 fn five_bytes_fit(rt: HostRuntime) -> Result<(), AllocError> {
-    let mut source = idle(rt.alloc(), Vec::new(rt.alloc()))?;
-    let status = Status::WriteFault { kept: 5 };
-    assert_ended(&rt, rt.alloc(), "solo", &mut source, status, "rail ")
+    for words in ["check", "solo"] {
+        let mut source = idle(rt.alloc(), Vec::new(rt.alloc()))?;
+        let found = assert_ended(&rt, rt.alloc(), words, &mut source, 4, "rail ")?;
+        assert!(rt; matches!(found, Status::WriteFault { kept: 5 }));
+    }
+    Ok(())
 }
 
 #[test]

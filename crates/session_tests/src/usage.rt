@@ -1,6 +1,8 @@
 //! What the user of the program is told, and its exit status.
 use crate::same::assert_same;
-use regulator_main::{SessionFault, SessionKind, Status, exit_code};
+use board_draft::BoardFault;
+use regulator_main::{Status, exit_code};
+use session::{SessionFault, SessionKind};
 use std::alloc::Global;
 use std::cell::RefCell;
 use std::fmt::{Display, Write};
@@ -11,7 +13,16 @@ use std::process::{Abort, ExitCode};
 /// A standard error that keeps its text.
 #[derive(Drop)]
 struct Kept {
+    alloc: Global,
     text: RefCell<String>,
+}
+
+impl Alloc for Kept {
+    type A = Global;
+
+    fn alloc(&self) -> Global {
+        self.alloc
+    }
 }
 
 impl Kept {
@@ -58,54 +69,77 @@ const ROWS: &[Row] = &[
         "the answers can't be written; 5 bytes of them went out\n",
     ),
     (
-        Status::SessionRefused(SessionFault {
-            line: 0,
-            kind: SessionKind::TooLong,
-        }),
-        5,
-        "the session has more than 4194304 bytes\n",
-    ),
-    (
-        Status::SessionRefused(SessionFault {
-            line: 1,
-            kind: SessionKind::BadSession,
-        }),
-        5,
-        "line 1 must be '%session 1'; a byte order mark before it or a carriage return behind it is the usual cause\n",
-    ),
-    (
-        Status::SessionRefused(SessionFault {
-            line: 2,
-            kind: SessionKind::BadSession,
-        }),
-        5,
-        "line 2 must be '%board demo' or '%board dts'\n",
-    ),
-    (
-        Status::SessionRefused(SessionFault {
-            line: 7,
-            kind: SessionKind::BadSession,
-        }),
-        5,
-        "line 7 must be '%reg', '%fault', '%worker' or '%done', whole and ended by a newline; a part that lacks its '%end' shows there too\n",
-    ),
-    (
-        Status::SessionRefused(SessionFault {
-            line: 5,
-            kind: SessionKind::NotYet,
-        }),
-        5,
-        "line 5 has a form that isn't built yet; a worker that lacks its %end shows there too\n",
-    ),
-    (
-        Status::SessionRefused(SessionFault {
-            line: 4100,
-            kind: SessionKind::TooManyLines,
-        }),
-        5,
-        "line 4100 is the 4097th call of its worker, and 4096 are the most\n",
+        Status::LoadFault { chip: 0, reg: 0x0a },
+        6,
+        "the bus refused the update of register 0x0a of chip 0 while the board was loaded\n",
     ),
 ];
+
+/// The line and the kind of a refusal, and the line on the standard error.
+type Refusal = (u32, SessionKind, &'static str);
+
+const REFUSALS: &[Refusal] = &[
+    (
+        0,
+        SessionKind::TooLong,
+        "refused 0 toolong: give at most 4194304 bytes\n",
+    ),
+    (
+        1,
+        SessionKind::BadSession,
+        "refused 1 badsession: write '%session 1', with neither a byte order mark before it nor a carriage return behind it\n",
+    ),
+    (
+        2,
+        SessionKind::BadSession,
+        "refused 2 badsession: write '%board demo' or '%board dts'\n",
+    ),
+    (
+        7,
+        SessionKind::BadSession,
+        "refused 7 badsession: write '%reg', '%fault', '%worker' or '%done', ended by a newline, and end each board text and worker by '%end'\n",
+    ),
+    (
+        5,
+        SessionKind::NotYet,
+        "refused 5 notyet: leave out what isn't built yet, on this line or on this board\n",
+    ),
+    (
+        35,
+        SessionKind::TooManyWorkers,
+        "refused 35 toomanyworkers: give at most 16 workers\n",
+    ),
+    (
+        4100,
+        SessionKind::TooManyLines,
+        "refused 4100 toomanylines: give each worker at most 4096 calls\n",
+    ),
+    (
+        4,
+        SessionKind::NoLabel(20),
+        "refused 4 nolabel 20: give the label there to a node; before a body, to an earlier one\n",
+    ),
+    (
+        2,
+        SessionKind::Board(BoardFault::OneBound(3)),
+        "refused 2 onebound 3: give the rail both bounds, or neither\n",
+    ),
+    (
+        2,
+        SessionKind::NoVector(1),
+        "refused 2 novector 1: widen the bounds of the rail or of what moves with it, or the spread\n",
+    ),
+];
+
+#[test]
+fn each_refusal_is_told_with_what_to_change(rt: HostRuntime) {
+    for &(line, kind, told) in REFUSALS {
+        assert_row(
+            &rt,
+            &(Status::SessionRefused(SessionFault { line, kind }), 5, told),
+        );
+    }
+}
 
 #[test]
 fn each_status_has_its_number_and_its_line(rt: HostRuntime) {
@@ -116,9 +150,10 @@ fn each_status_has_its_number_and_its_line(rt: HostRuntime) {
 
 fn assert_row(rt: &(impl Abort + Alloc<A = Global>), row: &Row) {
     let kept = Kept {
+        alloc: rt.alloc(),
         text: RefCell::new(String::new(rt.alloc())),
     };
     assert_same(rt, "status", exit_code(&kept, row.0), ExitCode::from(row.1));
-    let Kept { text: written } = kept;
+    let Kept { text: written, .. } = kept;
     assert_same(rt, "told", written.into_inner().as_str(), row.2);
 }

@@ -22,6 +22,8 @@ use Rattle.regulator_main.proofs.LoneEntry.{board-is, entry-first, events-here}
 use Rattle.regulator_main.proofs.LoneGoal.{lone_goal, lone_untied}
 use Rattle.regulator_main.proofs.LoneMoves.{told_of, moves-still, moves-arrived, moves-stopped}
 use Rattle.regulator_main.proofs.LoneSet.{changed}
+use Rattle.regulator_main.proofs.Tries.{tried_still, tried_first}
+use Rattle.regulator_main.proofs.Walked.{moves_to-there}
 use Rattle.regulator_main.proofs.desk.move_to.Given as given
 use Rattle.regulator_main.proofs.desk.move_to.Goals as goal
 use Rattle.regulator_main.proofs.desk.move_to.Goals.{After-uv-before, After-settle-settled, In_ok-tell_end}
@@ -54,6 +56,8 @@ returns-then-before-target g c =
           (sym c.uv-before.ensures ∙ c.if-before-target.true)
           (c.from-delay.ensures ∙ c.time.ensures.exact ∙ ap (λ v. time_of rail.limits.times rail.desc.ramp v c.args.target) c.uv-before.ensures)
           c.put_request.ensures);
+      tried = tried_still (moves_to first rail (uv rail plain.regs) c.args.target) (g.W.Wire.plan c.args.wire.now)
+          (moves_to-there first rail (uv rail plain.regs) c.args.target (sym c.uv-before.ensures ∙ c.if-before-target.true));
       handles = ap length c.put_request.ensures ∙ length-map plain.handles _;
     }
 
@@ -91,6 +95,7 @@ returns-in-Ok g c =
           (apart g (goal.at.returns-in-Ok g c).After-settle-settled) c.uv-uv.ensures
           (c.from-delay.ensures ∙ c.time.ensures.exact ∙ ap (λ v. time_of rail.limits.times rail.desc.ramp v c.args.target) c.uv-before.ensures)
           (tells g (goal.at.returns-in-Ok g c).In_ok-tell_end) c.put_request-in-Ok.ensures done.counted);
+      tried = done.tried;
       handles = ap length c.put_request-in-Ok.ensures ∙ length-map plain.handles _;
     }
 
@@ -113,6 +118,7 @@ returns-in_ok-changed-in-Err g c =
           stop.selector (apart g at.After-settle-settled) uv_is
           (c.in_ok-changed-in-Err.ensures ∙ ap (λ v. changed v c.uv-uv.result) c.uv-before.ensures)
           (tells g at.In_ok-tell_end) (c.put_request-in-Err.ensures ∙ ap (λ r. with_row plain.handles c.args.worker c.args.handle.now.bytes (with_request r)) c.kept_request-kept.ensures) stop.fault);
+      tried = tried_first c.in-Err.made (moves_to first rail (uv rail plain.regs) c.args.target) (g.W.Wire.plan c.args.wire.now) (g.W.Wire.plan c.settle-settled.new.wire) stop.before_the_end stop.tried_in_vain;
       handles = ap length c.put_request-in-Err.ensures ∙ length-map plain.handles _;
     }
 

@@ -12,13 +12,16 @@ use Rattle.rows.specs.declared.call.Call.TheVariants.{Set}
 use Rattle.plain_board.specs.Handles.{open_of}
 use Rattle.plain_board.specs.Plan.{moves_of_call}
 use Rattle.plain_board.specs.Refusals.{refusal}
+use Rattle.plain_board.specs.Answer.{planned}
 use Rattle.plain_board.specs.Requests.{meets}
 use Rattle.regulator_main.specs.Inside.Asked.{asks}
 use Rattle.regulator_main.specs.Inside.Way.{moves_to}
 use Rattle.regulator_main.proofs.LoneAnswers.{set-suspended, set-turned, set-none, set-moves, target}
 use Rattle.regulator_main.proofs.LoneBoard.{lone_board, first}
 use Rattle.regulator_main.proofs.LoneEntry.{board-is, entry-first}
-use Rattle.regulator_main.proofs.Performed.{performs-refused, performs-moves}
+use Rattle.regulator_main.specs.Desk.{tries_for}
+use Rattle.regulator_main.specs.Walk.{Tried}
+use Rattle.regulator_main.proofs.Performed.{performs-refused, performs-moves, tried-refused}
 use Rattle.regulator_main.proofs.Targets.{target_allowed}
 use Rattle.regulator_main.proofs.desk.set.Given as given
 use Rattle.regulator_main.proofs.desk.set.Goals as goal
@@ -40,18 +43,22 @@ refused g c said is =
 pub returns-then-plain : goal.returns-then-plain
 returns-then-plain g c =
     let d = (goal.at.returns-then-plain g c).In-Some in
+    let call = Set c.args.handle.now c.args.request.0 c.args.request.1 in
+    let is = refused g d Suspended (set-suspended c.requires.lone.rail c.args.board.now.chips c.args.plain.now c.args.worker c.args.handle.now c.in-Some.entry.1 (held g d) c.args.request.0 c.args.request.1 c.if-plain.true) in
     record {
-      performs = performs-refused c.args.board.now c.args.plain.now c.args.plain.now c.args.worker (Set c.args.handle.now c.args.request.0 c.args.request.1) Suspended (g.W.Wire.accepted c.args.wire.now) (g.W.Wire.accepted c.args.wire.now) (g.W.Wire.faults c.args.wire.now) (g.W.Wire.faults c.args.wire.now)
-          (refused g d Suspended (set-suspended c.requires.lone.rail c.args.board.now.chips c.args.plain.now c.args.worker c.args.handle.now c.in-Some.entry.1 (held g d) c.args.request.0 c.args.request.1 c.if-plain.true)) refl;
+      performs = performs-refused c.args.board.now c.args.plain.now c.args.plain.now c.args.worker call Suspended (g.W.Wire.accepted c.args.wire.now) (g.W.Wire.accepted c.args.wire.now) (g.W.Wire.faults c.args.wire.now) (g.W.Wire.faults c.args.wire.now) is refl;
+      tried = tried-refused c.args.board.now c.args.plain.now c.args.worker call Suspended (g.W.Wire.plan c.args.wire.now) is refl;
       handles = refl;
     }
 
 pub returns-then-request : goal.returns-then-request
 returns-then-request g c =
     let d = (goal.at.returns-then-request g c).In-Some in
+    let call = Set c.args.handle.now c.args.request.0 c.args.request.1 in
+    let is = refused g d (BadRange c.args.request.0 c.args.request.1) (set-turned c.requires.lone.rail c.args.board.now.chips c.args.plain.now c.args.worker c.args.handle.now c.in-Some.entry.1 (held g d) c.args.request.0 c.args.request.1 c.if-plain.false (lt-ltb c.args.request.1 c.args.request.0 c.if-request.true)) in
     record {
-      performs = performs-refused c.args.board.now c.args.plain.now c.args.plain.now c.args.worker (Set c.args.handle.now c.args.request.0 c.args.request.1) (BadRange c.args.request.0 c.args.request.1) (g.W.Wire.accepted c.args.wire.now) (g.W.Wire.accepted c.args.wire.now) (g.W.Wire.faults c.args.wire.now) (g.W.Wire.faults c.args.wire.now)
-          (refused g d (BadRange c.args.request.0 c.args.request.1) (set-turned c.requires.lone.rail c.args.board.now.chips c.args.plain.now c.args.worker c.args.handle.now c.in-Some.entry.1 (held g d) c.args.request.0 c.args.request.1 c.if-plain.false (lt-ltb c.args.request.1 c.args.request.0 c.if-request.true))) refl;
+      performs = performs-refused c.args.board.now c.args.plain.now c.args.plain.now c.args.worker call (BadRange c.args.request.0 c.args.request.1) (g.W.Wire.accepted c.args.wire.now) (g.W.Wire.accepted c.args.wire.now) (g.W.Wire.faults c.args.wire.now) (g.W.Wire.faults c.args.wire.now) is refl;
+      tried = tried-refused c.args.board.now c.args.plain.now c.args.worker call (BadRange c.args.request.0 c.args.request.1) (g.W.Wire.plan c.args.wire.now) is refl;
       handles = refl;
     }
 
@@ -69,11 +76,12 @@ returns-in_default-least_within g c =
     let plain = c.args.plain.now in
     let rail = c.lone_rail-rail.result.now in
     let call = Set c.args.handle.now c.args.request.0 c.args.request.1 in
+    let is = subst (λ (b : Board). refusal b plain c.args.worker call ≡ Some NoValue) (sym (board-is board c.requires.lone rail c.lone_rail-rail.ensures))
+    (set-none rail board.chips plain c.args.worker c.args.handle.now c.in-Some.entry.1 (held g at.In-Some) c.args.request.0 c.args.request.1 c.if-plain.false (le-ltb c.args.request.1 c.args.request.0 c.if-request.false)
+    (found g at.After-least_within ∙ c.in_default-least_within.is)) in
     record {
-      performs = performs-refused board plain plain c.args.worker call NoValue (g.W.Wire.accepted c.args.wire.now) (g.W.Wire.accepted c.args.wire.now) (g.W.Wire.faults c.args.wire.now) (g.W.Wire.faults c.args.wire.now)
-          (subst (λ (b : Board). refusal b plain c.args.worker call ≡ Some NoValue) (sym (board-is board c.requires.lone rail c.lone_rail-rail.ensures))
-          (set-none rail board.chips plain c.args.worker c.args.handle.now c.in-Some.entry.1 (held g at.In-Some) c.args.request.0 c.args.request.1 c.if-plain.false (le-ltb c.args.request.1 c.args.request.0 c.if-request.false)
-          (found g at.After-least_within ∙ c.in_default-least_within.is))) refl;
+      performs = performs-refused board plain plain c.args.worker call NoValue (g.W.Wire.accepted c.args.wire.now) (g.W.Wire.accepted c.args.wire.now) (g.W.Wire.faults c.args.wire.now) (g.W.Wire.faults c.args.wire.now) is refl;
+      tried = tried-refused board plain c.args.worker call NoValue (g.W.Wire.plan c.args.wire.now) is refl;
       handles = refl;
     }
 
@@ -96,11 +104,14 @@ returns g c =
     (target_allowed rail c.bounds-least.result v (sym c.least_within.ensures ∙ c.in-Some-least_within.is)) in
     let is = sym (board-is board c.requires.lone rail c.lone_rail-rail.ensures) in
     let accepted = subst (λ (b : Board). refusal b plain c.args.worker call ≡ None) is moves.0 in
-    let planned = subst (λ (b : Board). moves_of_call b plain c.args.worker call ≡ moves_to first rail (uv rail plain.regs) v) is moves.1 in
+    let planned_moves = subst (λ (b : Board). moves_of_call b plain c.args.worker call ≡ moves_to first rail (uv rail plain.regs) v) is moves.1 in
     record {
       performs = IfOk-weaker c.move_to.result _ _
           (λ said m. performs-moves board plain c.move_to.new.plain c.args.worker call said (told c.args.wire.now) (told c.move_to.new.wire) (count c.args.wire.now) (count c.move_to.new.wire)
-          (moves_to first rail (uv rail plain.regs) v) accepted planned m.answered m.took)
+          (moves_to first rail (uv rail plain.regs) v) accepted planned_moves m.answered m.took)
           c.move_to.ensures.moves;
+      tried = IfOk-weaker c.move_to.result _ _
+          (λ said t. subst (λ ms. Tried (tries_for ms said) (g.W.Wire.plan c.args.wire.now) (g.W.Wire.plan c.move_to.new.wire)) (sym (ap (planned board plain c.args.worker call) accepted ∙ planned_moves)) t)
+          c.move_to.ensures.tried;
       handles = c.move_to.ensures.handles;
     }

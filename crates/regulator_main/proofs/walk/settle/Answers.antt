@@ -1,6 +1,8 @@
 use Rattle.std.proofs.Common.{refl, sym, ◌∙◌}
 use Rattle.board.specs.Rail.{uv}
-use Rattle.regulator_main.proofs.Walked.{makes_none}
+use Rattle.regulator_main.specs.Inside.Way.{moves_to}
+use Rattle.regulator_main.proofs.Tries.{tried_still}
+use Rattle.regulator_main.proofs.Walked.{makes_none, moves_to-there}
 use Rattle.regulator_main.proofs.walk.settle.Goals as goal
 
 pub returns-then-uv-target : goal.returns-then-uv-target
@@ -12,6 +14,9 @@ returns-then-uv-target g c = record {
   before_the_end = tt;
   stopped = tt;
   fault = tt;
+  tried = tried_still (moves_to c.args.id c.args.rail.now (uv c.args.rail.now c.args.regs.now) c.args.target) (g.W.Wire.plan c.args.wire.now)
+      (moves_to-there c.args.id c.args.rail.now (uv c.args.rail.now c.args.regs.now) c.args.target (sym c.uv.ensures ∙ c.if-uv-target.true));
+  tried_in_vain = tt;
   chips = refl;
 }
 
@@ -25,6 +30,8 @@ returns-in-Ok g c =
       before_the_end = tt;
       stopped = tt;
       fault = tt;
+      tried = done.tried;
+      tried_in_vain = tt;
       chips = done.chips;
     }
 
@@ -38,5 +45,7 @@ returns-in-Err g c =
       before_the_end = done.before_the_end;
       stopped = done.stopped;
       fault = done.fault;
+      tried = tt;
+      tried_in_vain = done.tried_in_vain;
       chips = done.chips;
     }

@@ -9,7 +9,9 @@ use Rattle.board.specs.Rail.{uv}
 use Rattle.board.specs.Desc.{IsPlaced, HoldsSelectors}
 use Rattle.rail_law.specs.Moves.{Move, selector_for}
 use Rattle.regulator_main.specs.Inside.Way.{moves_to}
-use Rattle.regulator_main.proofs.Walked.{walked_none, within_from_rest, walked_more, rest_more, walked_all, selector_for-first, field_of_selector, fits_byte, uv_written, moves_to-step, none_left}
+use Rattle.regulator_main.specs.Walk.{Tried, all_made}
+use Rattle.regulator_main.proofs.Walked.{walked_none, within_from_rest, walked_more, rest_more, walked_all, selector_for-first, field_of_selector, fits_byte, uv_written, moves_to-step, none_left, made_is_all}
+use Rattle.regulator_main.proofs.Tries.{tried_none, tried_one_more, tried_stop}
 use Rattle.regulator_main.proofs.walk.walk.Given as given
 use Rattle.regulator_main.proofs.walk.walk.Goals as goal
 use Rattle.regulator_main.proofs.walk.walk.Goals.{After-toward-pick}
@@ -62,6 +64,7 @@ loop-at-preserved g c =
       rest = rest_more moves c.loop-at.made (move g d) rest (next_left g d);
       at = at_is;
       counted = done.counted ∙ c.loop-at.invariant.counted;
+      tried = tried_one_more c.loop-at.made (g.W.Wire.plan c.args.wire.now) (g.W.Wire.plan c.loop-at.wire) (g.W.Wire.plan c.write_field.new.wire) c.loop-at.invariant.tried done.tried;
       chips = done.chips ∙ c.loop-at.invariant.chips;
       bound = omega (arith, c.toward-pick.ensures.nearer, c.loop-at.invariant.bound);
     }
@@ -74,6 +77,11 @@ returns g c = record {
   before_the_end = tt;
   stopped = tt;
   fault = tt;
+  tried = subst (λ n. Tried (all_made n) (g.W.Wire.plan c.args.wire.now) (g.W.Wire.plan c.loop-at.wire))
+      (made_is_all c.loop-at.made (moves_to c.args.id c.args.rail.now (uv c.args.rail.now c.args.regs.now) c.args.target) c.loop-at.invariant.walked.within
+      (none_left c.args.id c.args.rail.now c.loop-at.at c.args.target c.loop-at.made _ c.loop-at.invariant.rest c.loop-at-test.false))
+      c.loop-at.invariant.tried;
+  tried_in_vain = tt;
   chips = c.loop-at.invariant.chips;
 }
 
@@ -88,6 +96,8 @@ returns-in_default g c =
       before_the_end = within_from_rest _ c.loop-at.made (move g d) _ (next_left g d);
       stopped = rw (stop.same_registers, stop.not_told) before.walked.makes;
       fault = subst (λ n. Rose n (g.W.Wire.faults c.write_field.new.wire)) before.counted stop.fault;
+      tried = tt;
+      tried_in_vain = tried_stop c.loop-at.made (g.W.Wire.plan c.args.wire.now) (g.W.Wire.plan c.loop-at.wire) (g.W.Wire.plan c.write_field.new.wire) before.tried stop.tried_in_vain;
       chips = stop.chips ∙ before.chips;
     }
 
@@ -99,6 +109,7 @@ loop-at-init g c =
       rest = ap (λ v. moves_to c.args.id c.args.rail.now v c.args.target) c.uv-at.ensures;
       at = c.uv-at.ensures;
       counted = refl;
+      tried = tried_none (g.W.Wire.plan c.args.wire.now);
       chips = refl;
       bound = omega arith;
     }

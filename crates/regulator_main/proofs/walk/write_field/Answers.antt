@@ -1,6 +1,8 @@
 use Rattle.std.proofs.Common.{refl, ap, ◌∙◌, [], ◌∷◌, arith}
+use Rattle.std.proofs.lemmas.Bool.{false≢true}
 use Rattle.std.proofs.lemmas.Result.{err_from_is_err_and}
 use Rattle.reg_outside.specs.Told.{with_more}
+use Rattle.regulator_main.proofs.Tries.{tried_taken, tried_refused}
 use Rattle.regulator_main.proofs.Walked.{at_mask}
 use Rattle.regulator_main.proofs.walk.write_field.Goals as goal
 
@@ -16,6 +18,8 @@ returns g c =
       same_registers = tt;
       not_told = tt;
       fault = tt;
+      tried = tried_taken (g.W.Wire.plan c.args.wire.now) (g.W.Wire.plan c.update.new.self) c.in_ok-update.ensures.tried (λ planned. false≢true (c.in_ok-update.ensures.planned planned));
+      tried_in_vain = tt;
       chips = c.put.ensures.chips;
     }
 
@@ -30,6 +34,8 @@ returns-in_err-update g c =
       same_registers = refl;
       not_told = c.in_err-update.ensures.refused;
       fault = c.in_err-update.ensures.refused_counts;
+      tried = tt;
+      tried_in_vain = tried_refused (g.W.Wire.plan c.args.wire.now) (g.W.Wire.plan c.update.new.self) c.in_err-update.ensures.tried;
       chips = refl;
     }
 

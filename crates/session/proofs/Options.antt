@@ -1,0 +1,18 @@
+-- The two sides of a clause on an `Option`.
+use Rattle.std.proofs.Common.{Option, Some, None}
+use Rattle.std.specs.Prelude.{MatchOption, IfSome, IfNone}
+
+-- the part of a clause that is said of a value
+pub some_part : {X : Type 0} (r : Option X) (P : Type 0) (Q : X → Type 0) → MatchOption r P Q → IfSome r Q
+some_part None P Q h = tt
+some_part (Some x) P Q h = h
+
+-- the part of a clause that is said where there is none
+pub none_part : {X : Type 0} (r : Option X) (P : Type 0) (Q : X → Type 0) → MatchOption r P Q → IfNone r P
+none_part None P Q h = h
+none_part (Some x) P Q h = tt
+
+-- what follows where there is none
+pub none_then : {X : Type 0} (r : Option X) (P Q : Type 0) → IfNone r P → (P → Q) → IfNone r Q
+none_then None P Q h f = f h
+none_then (Some x) P Q h f = tt

@@ -1,0 +1,10 @@
+use Rattle.session.proofs.Prefixes.{suffix_some, suffix_none}
+use Rattle.session.proofs.split.before_suffix.Goals as goal
+
+pub returns-clause-some : goal.returns-clause-some
+returns-clause-some c =
+    suffix_some c.args.text.now c.args.suffix.now c.strip_suffix.result c.strip_suffix.ensures.cases
+
+pub returns-clause-none : goal.returns-clause-none
+returns-clause-none c =
+    suffix_none c.args.text.now c.args.suffix.now c.strip_suffix.result c.strip_suffix.ensures.cases

@@ -1,0 +1,4 @@
+pub mod Read
+pub mod Progress
+pub mod Frames
+pub mod Loaded

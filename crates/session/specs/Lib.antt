@@ -1,0 +1,12 @@
+pub mod Lines
+pub mod Words
+pub mod Script
+pub mod Frame
+pub mod Forms
+pub mod Grammar
+pub mod BoardText
+pub mod Loading
+pub mod Session
+pub mod Text
+pub mod Laws
+pub mod Inside
