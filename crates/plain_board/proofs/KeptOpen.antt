@@ -14,10 +14,10 @@ use Rattle.board.specs.declared.rail_id.RailId.{RailId}
 use Rattle.board.specs.Rail.{uv}
 use Rattle.rows.specs.declared.answer.Answer.TheVariants.{HandleOpen, HandlesFull}
 use Rattle.rows.specs.declared.call.Call.TheVariants.{Open}
-use Rattle.plain_board.specs.declared.handle_row.HandleRow.{HandleRow}
+use Rattle.use_counts.specs.declared.handle_row.HandleRow.{HandleRow}
+use Rattle.use_counts.specs.Counts.{drawn}
 use Rattle.plain_board.specs.declared.plain.Plain.{Plain}
 use Rattle.plain_board.specs.Handles.{Entry, is_own, open_of, count_own, rows_on, with_open}
-use Rattle.plain_board.specs.Counts.{drawn}
 use Rattle.plain_board.specs.Answer.{new_row}
 use Rattle.plain_board.specs.Inv.{Inv, IsSoundEntry, StandApart, ShareFairly}
 use Rattle.plain_board.specs.Refusals.{most_handles, excludes, refusal}

@@ -9,10 +9,10 @@ use Rattle.board.specs.declared.board.Board.{Board}
 use Rattle.board.specs.declared.rail.Rail.{Rail}
 use Rattle.board.specs.Rail.{uv}
 use Rattle.board.specs.Valid.{IsSoundBoard}
-use Rattle.plain_board.specs.declared.handle_row.HandleRow.{HandleRow}
+use Rattle.use_counts.specs.declared.handle_row.HandleRow.{HandleRow}
+use Rattle.use_counts.specs.Counts.{drawn}
 use Rattle.plain_board.specs.declared.plain.Plain.{Plain}
 use Rattle.plain_board.specs.Handles.{Entry, is_own, rows_on, with_row, count_own}
-use Rattle.plain_board.specs.Counts.{drawn}
 use Rattle.plain_board.specs.Answer.{with_changed, with_request}
 use Rattle.plain_board.specs.Inv.{Inv, IsSoundEntry, StandApart, ShareFairly}
 use Rattle.plain_board.specs.Requests.{meets, requests_on}

@@ -9,9 +9,10 @@ use Rattle.board.specs.declared.board.Board.{Board}
 use Rattle.board.specs.declared.rail.Rail.{Rail}
 use Rattle.board.specs.Rail.{uv, is_on, mode}
 use Rattle.rail_law.specs.Law.{Law}
+use Rattle.use_counts.specs.Counts.{drawn}
 use Rattle.plain_board.specs.declared.plain.Plain.{Plain}
 use Rattle.plain_board.specs.Handles.{count_own, rows_on}
-use Rattle.plain_board.specs.Counts.{enables, drawn, load_sum, is_held, is_supply, votes, use_count}
+use Rattle.plain_board.specs.Counts.{enables, load_sum, is_held, is_supply, votes, use_count}
 use Rattle.plain_board.specs.Inv.{Inv, IsSoundEntry, StandApart, ShareFairly}
 use Rattle.plain_board.specs.Refusals.{most_handles}
 use Rattle.plain_board.specs.Requests.{meets, requests_on}

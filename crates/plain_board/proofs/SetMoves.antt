@@ -20,7 +20,7 @@ use Rattle.rail_law.specs.BoardTies.{standing_values}
 use Rattle.rows.specs.declared.answer.Answer.{Answer}
 use Rattle.rows.specs.declared.answer.Answer.TheVariants.{BadRange, NoValue, NoHandle, Suspended}
 use Rattle.rows.specs.declared.call.Call.TheVariants.{Set}
-use Rattle.plain_board.specs.declared.handle_row.HandleRow.{HandleRow}
+use Rattle.use_counts.specs.declared.handle_row.HandleRow.{HandleRow}
 use Rattle.plain_board.specs.declared.plain.Plain.{Plain}
 use Rattle.plain_board.specs.Handles.{Entry, open_of, without_open, on_rail, for_open}
 use Rattle.plain_board.specs.Plan.{set_moves, moves_of_call}

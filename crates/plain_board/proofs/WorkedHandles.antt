@@ -11,7 +11,7 @@ use Rattle.board.proofs.Boards.{coupled_board}
 use Rattle.rows.specs.declared.answer.Answer.{Answer}
 use Rattle.rows.specs.declared.answer.Answer.TheVariants.{Ok, OkTime, CountFull, StillEnabled, Taken, HandleOpen, HandlesFull}
 use Rattle.rows.specs.declared.call.Call.TheVariants.{Open, Close, Enable, Disable, Set, Listen}
-use Rattle.plain_board.specs.declared.handle_row.HandleRow.{HandleRow}
+use Rattle.use_counts.specs.declared.handle_row.HandleRow.{HandleRow}
 use Rattle.plain_board.specs.declared.plain.Plain.{Plain}
 use Rattle.plain_board.specs.Text.{summary_text}
 use Rattle.plain_board.proofs.Played.{Turn, asks, other_asks, answers, played, named, rail, chip_with, lines, a, b}

@@ -16,7 +16,7 @@ use Rattle.rows.specs.declared.answer.Answer.TheVariants.{Ok, OkTime, OkSet, OkU
 use Rattle.rows.specs.declared.call.Call.{Call}
 use Rattle.rows.specs.declared.call.Call.TheVariants.{Open, Set, Get, Enable}
 use Rattle.rows.specs.declared.row.Row.{Row}
-use Rattle.plain_board.specs.declared.handle_row.HandleRow.{HandleRow}
+use Rattle.use_counts.specs.declared.handle_row.HandleRow.{HandleRow}
 use Rattle.plain_board.specs.declared.plain.Plain.{Plain}
 use Rattle.plain_board.specs.Answer.{answer, plan}
 use Rattle.plain_board.specs.History.{after, replay, IsNext, IsLegal, KeepsNone, Keeps, moved, faults_of}

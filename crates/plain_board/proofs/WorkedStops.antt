@@ -11,7 +11,7 @@ use Rattle.board.proofs.Boards.{coupled_board}
 use Rattle.rows.specs.declared.answer.Answer.TheVariants.{OkUv, Fault}
 use Rattle.rows.specs.declared.call.Call.TheVariants.{Set, Get}
 use Rattle.rows.specs.declared.row.Row.{Row}
-use Rattle.plain_board.specs.declared.handle_row.HandleRow.{HandleRow}
+use Rattle.use_counts.specs.declared.handle_row.HandleRow.{HandleRow}
 use Rattle.plain_board.specs.declared.plain.Plain.{Plain}
 use Rattle.plain_board.specs.Stops.{Tries, tries_of, attempts, none_planned, are_in_step, is_stray, strays, Refusals, is_planned, ArePlanned}
 use Rattle.plain_board.proofs.Played.{rail, a, b}

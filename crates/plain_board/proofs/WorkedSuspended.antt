@@ -15,7 +15,7 @@ use Rattle.rail_law.specs.Moves.{writes_of}
 use Rattle.rows.specs.declared.answer.Answer.TheVariants.{Ok, OkTime, OkMode, OkUv, OkOn, OkList, OkYes, OkEvents, CountFull, StillEnabled, NoHandle, NotAllowed, Suspended, NotSuspended, Fault}
 use Rattle.rows.specs.declared.call.Call.{Call}
 use Rattle.rows.specs.declared.call.Call.TheVariants.{Open, Close, Enable, Disable, Set, Load, Get, IsOn, ModeOf, ListSel, Supported, Listen, Events, Suspend, Resume, ReleaseBoot}
-use Rattle.plain_board.specs.declared.handle_row.HandleRow.{HandleRow}
+use Rattle.use_counts.specs.declared.handle_row.HandleRow.{HandleRow}
 use Rattle.plain_board.specs.declared.plain.Plain.{Plain}
 use Rattle.plain_board.specs.Answer.{plan}
 use Rattle.plain_board.specs.Text.{summary_text}

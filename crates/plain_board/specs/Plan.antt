@@ -24,7 +24,7 @@ use Rattle.rail_law.specs.Moves.{Move, field_of_move, after_moves}
 use Rattle.rail_law.specs.Way.{path}
 use Rattle.rows.specs.declared.call.Call.{Call}
 use Rattle.rows.specs.declared.call.Call.TheVariants.{Enable, Disable, Set, Load, Suspend, ReleaseBoot}
-use Rattle.plain_board.specs.declared.handle_row.HandleRow.{HandleRow}
+use Rattle.use_counts.specs.declared.handle_row.HandleRow.{HandleRow}
 use Rattle.plain_board.specs.declared.plain.Plain.{Plain}
 use Rattle.plain_board.specs.Handles.{Entry, open_of, rows_on, with_row, for_open}
 use Rattle.plain_board.specs.Counts.{load_sum, use_count}

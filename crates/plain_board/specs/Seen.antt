@@ -1,27 +1,18 @@
 -- What a call sees of a plain board under the locks that it takes.
-use Rattle.std.specs.Prelude.{ℕ, ◌≡◌, Bool, ◌||◌, nat_le, List, [], ◌∷◌, Contains, slice_index_or, Option, option_map, is_some, if◌then◌else◌}
+use Rattle.std.specs.Prelude.{ℕ, ◌≡◌, ◌||◌, nat_le, List, [], ◌∷◌, Contains, slice_index_or, Option, option_map, is_some, if◌then◌else◌}
 use Rattle.std.specs.Option.{option_map_or}
 use Rattle.board_graph.specs.Sets.{rails_of, guard_of, closure}
 use Rattle.chip_regs.specs.Registers.{field_of}
 use Rattle.board.specs.declared.board.Board.{Board}
-use Rattle.board.specs.declared.event.Event.{Event}
 use Rattle.board.specs.declared.part.Part.{Part}
 use Rattle.board.specs.Fields.{field_at}
 use Rattle.rows.specs.declared.call.Call.{Call}
 use Rattle.rows.specs.declared.call.Call.TheVariants.{Open, Close, Enable, Disable, Set, Load, Get, IsOn, ModeOf, ListSel, Supported, Listen, Events, Suspend, Resume, ReleaseBoot}
-use Rattle.plain_board.specs.declared.handle_row.HandleRow.{HandleRow}
+use Rattle.use_counts.specs.Book.{Book}
 use Rattle.plain_board.specs.declared.plain.Plain.{Plain}
 use Rattle.plain_board.specs.Handles.{own, count_own, rows_on}
 use Rattle.plain_board.specs.Counts.{is_held, votes}
 use Rattle.plain_board.specs.Refusals.{most_handles}
-
--- what stands behind the lock of a rail
-pub record Book : Type 0 where
-  pub rows : List HandleRow
-  pub held : Bool
-  pub votes : ℕ
-  pub events : List Event
-  pub suspended : Bool
 
 -- the book of rail i
 abbrev pub book : Board → Plain → ℕ → Book

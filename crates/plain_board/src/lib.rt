@@ -3,12 +3,10 @@
 
 mod counts;
 mod fields;
-mod handle_row;
 pub mod laws;
 mod plain;
 mod summary_text;
 
 pub use fields::hold_fields;
-pub use handle_row::HandleRow;
 pub use plain::Plain;
 pub use summary_text::summary;

@@ -1,7 +1,7 @@
-use crate::handle_row::HandleRow;
 use board::{Event, RailId};
 use chip_regs::Regs;
 use item_list::Items;
+use use_counts::HandleRow;
 
 /// All that a board without threads has: its registers, the open handles rail by rail and on each
 /// rail in the order of opening, and by rail its hold and its events.

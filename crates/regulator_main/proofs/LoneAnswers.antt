@@ -9,7 +9,7 @@ use Rattle.board.specs.Rail.{uv, allowed, least}
 use Rattle.rows.specs.declared.answer.Answer.TheVariants.{Ok, OkUv, BadRange, NoHandle, NoValue, Suspended, HandleOpen, HandlesFull, Taken}
 use Rattle.rows.specs.declared.call.Call.{Call}
 use Rattle.rows.specs.declared.call.Call.TheVariants.{Open, Set, Get}
-use Rattle.plain_board.specs.declared.handle_row.HandleRow.{HandleRow}
+use Rattle.use_counts.specs.declared.handle_row.HandleRow.{HandleRow}
 use Rattle.plain_board.specs.declared.plain.Plain.{Plain}
 use Rattle.plain_board.specs.Handles.{Entry, is_own, open_of, count_own, rows_on, with_open, without_open}
 use Rattle.plain_board.specs.Requests.{meets, requests_on, asked, with_moved, goal_of}

@@ -8,7 +8,7 @@ use Rattle.board.specs.declared.board.Board.{Board}
 use Rattle.board.specs.declared.rail.Rail.{Rail}
 use Rattle.board.specs.declared.rail_id.RailId.{RailId}
 use Rattle.board.specs.Lone.{IsLone}
-use Rattle.plain_board.specs.declared.handle_row.HandleRow.{HandleRow}
+use Rattle.use_counts.specs.declared.handle_row.HandleRow.{HandleRow}
 use Rattle.plain_board.specs.declared.plain.Plain.{Plain}
 use Rattle.plain_board.specs.Handles.{Entry, open_of, is_own, rows_on, with_open}
 use Rattle.plain_board.specs.Inv.{Inv, IsSoundEntry}

@@ -15,7 +15,7 @@ use Rattle.board.specs.Rail.{uv, allowed}
 use Rattle.rail_law.specs.Moves.{Move, after_moves, update_of_field}
 use Rattle.rows.specs.declared.answer.Answer.TheVariants.{OkSet, Fault}
 use Rattle.rows.specs.declared.call.Call.TheVariants.{Set}
-use Rattle.plain_board.specs.declared.handle_row.HandleRow.{HandleRow}
+use Rattle.use_counts.specs.declared.handle_row.HandleRow.{HandleRow}
 use Rattle.plain_board.specs.declared.plain.Plain.{Plain}
 use Rattle.plain_board.specs.Events.{voltage_events}
 use Rattle.plain_board.specs.Handles.{Entry, open_of, with_row}

@@ -16,7 +16,7 @@ use Rattle.board.specs.Rail.{uv}
 use Rattle.rail_law.specs.Moves.{Move, after_moves, selector_for, writes_of}
 use Rattle.rows.specs.declared.answer.Answer.TheVariants.{OkSet, Fault}
 use Rattle.rows.specs.declared.call.Call.TheVariants.{Set}
-use Rattle.plain_board.specs.declared.handle_row.HandleRow.{HandleRow}
+use Rattle.use_counts.specs.declared.handle_row.HandleRow.{HandleRow}
 use Rattle.plain_board.specs.declared.plain.Plain.{Plain}
 use Rattle.plain_board.specs.Handles.{open_of, with_row}
 use Rattle.plain_board.specs.Events.{voltage_events, events_of_move}

@@ -18,11 +18,12 @@ use crate::requests::{bounds, count_own, excludes, kept_request, open_of, put_re
 use crate::walk::settle;
 use board::{Board, Event, Handle, Rail, RailId};
 use item_list::Items;
-use plain_board::{HandleRow, Plain, hold_fields};
+use plain_board::{Plain, hold_fields};
 use ramp_delay::time;
 use reg_outside::Wire;
 use rows::{Answer, Call};
 use std::alloc::{AllocError, Global};
+use use_counts::HandleRow;
 
 /// How many handles a worker can have open.
 const MOST_HANDLES: usize = 64;

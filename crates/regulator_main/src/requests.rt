@@ -8,7 +8,7 @@ ghost use Rattle.regulator_main.specs.Inside.Asked.{asks, meets_any};
 
 use board::{Handle, RailId};
 use item_list::Items;
-use plain_board::HandleRow;
+use use_counts::HandleRow;
 
 /// Whether the row is that of the worker's handle of this name.
 fn is_own(row: &(RailId, HandleRow), worker: u16, name: &Handle) -> bool

@@ -1,0 +1,6 @@
+//! The counts of a rail, each the sum over its handles that it stands for; and the names that a worker has open.
+#![tactic(auto)]
+
+mod handle_row;
+
+pub use handle_row::HandleRow;
