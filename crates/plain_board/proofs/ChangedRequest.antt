@@ -11,14 +11,14 @@ use Rattle.plain_board.specs.Answer.{with_request}
 use Rattle.plain_board.specs.Inv.{StandApart, ShareFairly}
 use Rattle.plain_board.proofs.Requests.{adds, sum_by-rows, AsksOn}
 
-AllPairs-map : {A : Type 0} (R : A → A → Type 0) (f : A → A) (xs : List A) → ((a b : A) → R a b → R (f a) (f b)) → AllPairs R xs → AllPairs R (map f xs)
+pub AllPairs-map : {A : Type 0} (R : A → A → Type 0) (f : A → A) (xs : List A) → ((a b : A) → R a b → R (f a) (f b)) → AllPairs R xs → AllPairs R (map f xs)
 AllPairs-map R f xs keeps all i j d before within =
     let short : j < length xs = omega (arith, length-map xs f) in
     let first = get_or-map f xs i d d (omega arith) in
     let second = get_or-map f xs j d d short in
     rw (first, second) (keeps (get_or xs i d) (get_or xs j d) (all i j d before short))
 
-sum_by-map_same : {A : Type 0} (g : A → ℕ) (f : A → A) (xs : List A) → ((a : A) → g (f a) ≡ g a) → sum_by g (map f xs) ≡ sum_by g xs
+pub sum_by-map_same : {A : Type 0} (g : A → ℕ) (f : A → A) (xs : List A) → ((a : A) → g (f a) ≡ g a) → sum_by g (map f xs) ≡ sum_by g xs
 sum_by-map_same g f [] same = refl
 sum_by-map_same g f (x ∷ xs) same =
     sum_by-cons g (f x) (map f xs) ∙ ap (λ n. n + sum_by g (map f xs)) (same x) ∙ ap (λ n. g x + n) (sum_by-map_same g f xs same) ∙ sym (sum_by-cons g x xs)

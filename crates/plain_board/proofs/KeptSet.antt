@@ -47,7 +47,8 @@ met_between : (request : Option (ℕ × ℕ)) (u goal v : ℕ) → IsBetween u g
 met_between None u goal v between first last = tt
 met_between (Some asked) u goal v between first last = meets_between asked u goal v between first last
 
-cursor_within : (cursor : Option ℕ) (m n : ℕ) → m ≤ n → IfSome cursor (λ c. c ≤ m) → IfSome cursor (λ c. c ≤ n)
+-- a cursor isn't beyond more events
+pub cursor_within : (cursor : Option ℕ) (m n : ℕ) → m ≤ n → IfSome cursor (λ c. c ≤ m) → IfSome cursor (λ c. c ≤ n)
 cursor_within None m n more is = tt
 cursor_within (Some c) m n more is = omega (arith, is)
 

@@ -19,6 +19,11 @@ pub mod OwnHandle
 pub mod KeptSet
 pub mod KeptOpen
 pub mod CallLaws
+pub mod Switches
+pub mod ChainEnds
+pub mod SwitchedOn
+pub mod SwitchedOff
+pub mod ChangedRow
 pub mod TwoRails
 mod WorkedCoupled
 mod WorkedDemo

@@ -42,3 +42,19 @@ module _ (worker : ℕ) (name : List ℕ) where
   own_stands_on [] entry apart is = absurd (cc)
   own_stands_on (x ∷ rest) entry apart is =
       open_first x entry rest (is_own worker name x) refl apart (own_stands_on rest entry (pairs_rest StandApart x rest apart)) is
+
+  only_first : (x entry : Entry) (rest : List Entry) (t : Bool) → is_own worker name x ≡ t → AllPairs StandApart (x ∷ rest)
+      → (open_of rest worker name ≡ Some entry → All (λ other. is_own worker name other ≡ true → other ≡ entry) rest)
+      → cond t (Some x) (open_of rest worker name) ≡ Some entry → All (λ other. is_own worker name other ≡ true → other ≡ entry) (x ∷ rest)
+  only_first x entry rest true own apart further is =
+      All-cons (λ other. is_own worker name other ≡ true → other ≡ entry) x rest (λ here. same_Some _ _ is)
+      (λ k d within other. absurd (not_both x (get_or rest k d) (pairs_first StandApart x rest apart k d within) own other))
+  only_first x entry rest false own apart further is =
+      All-cons (λ other. is_own worker name other ≡ true → other ≡ entry) x rest (λ here. absurd (both_ways _ own here)) (further is)
+
+  -- it is the only one
+  pub own_is_only : (handles : List Entry) (entry : Entry) → AllPairs StandApart handles → open_of handles worker name ≡ Some entry
+      → All (λ other. is_own worker name other ≡ true → other ≡ entry) handles
+  own_is_only [] entry apart is = absurd (cc)
+  own_is_only (x ∷ rest) entry apart is =
+      only_first x entry rest (is_own worker name x) refl apart (own_is_only rest entry (pairs_rest StandApart x rest apart)) is

@@ -97,11 +97,11 @@ count_cons : (p : ℕ → Bool) (x : ℕ) (xs : List ℕ) → count_by p (x ∷ 
 count_cons p x xs = sum_by-cons (λ y. cond (p y) 1 0) x xs
 
 module _ (p q : ℕ → Bool) (wider : (w : ℕ) → q w ≡ true → p w ≡ true) where
-  no_more : (xs : List ℕ) → count_by q xs ≤ count_by p xs
+  pub no_more : (xs : List ℕ) → count_by q xs ≤ count_by p xs
   no_more [] = omega arith
   no_more (x ∷ xs) = omega (arith, count_cons p x xs, count_cons q x xs, no_more_by (q x) (p x) (count_by q xs) (count_by p xs) (wider x) (no_more xs))
 
-  fewer : (xs : List ℕ) (v : ℕ) → Contains xs v → p v ≡ true → q v ≡ false → count_by q xs < count_by p xs
+  pub fewer : (xs : List ℕ) (v : ℕ) → Contains xs v → p v ≡ true → q v ≡ false → count_by q xs < count_by p xs
   fewer [] v has passes fails = absurd (omega (arith, has.1))
   fewer (x ∷ xs) v (zero, within, is) passes fails =
       omega (arith, count_cons p x xs, count_cons q x xs, no_more xs, weighs_one (p x) (ap p is ∙ passes), weighs_none (q x) (ap q is ∙ fails))

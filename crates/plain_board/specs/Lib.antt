@@ -13,3 +13,4 @@ pub mod Inv
 pub mod Seen
 pub mod Text
 pub mod Untied
+pub mod Switched
