@@ -24,6 +24,8 @@ pub mod ChainEnds
 pub mod SwitchedOn
 pub mod SwitchedOff
 pub mod ChangedRow
+pub mod KeptSwitched
+pub mod KeptClose
 pub mod TwoRails
 mod WorkedCoupled
 mod WorkedDemo
