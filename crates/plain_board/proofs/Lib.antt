@@ -26,6 +26,11 @@ pub mod SwitchedOff
 pub mod ChangedRow
 pub mod KeptSwitched
 pub mod KeptClose
+pub mod GrownLists
+pub mod CallKeeps
+pub mod KeptEnable
+pub mod KeptDisable
+pub mod KeptRelease
 pub mod TwoRails
 mod WorkedCoupled
 mod WorkedDemo
