@@ -36,13 +36,13 @@ use Rattle.plain_board.proofs.SetMoves.{IsSetTo, set_not_refused}
 use Rattle.plain_board.proofs.ValuesTo.{values_to, IsBetween}
 
 -- by whether a call is refused
-planned_by : (board : Board) (plain : Plain) (worker : ℕ) (call : Call) (o : Option Answer) → refusal board plain worker call ≡ o → Law board plain.regs
+pub planned_by : (board : Board) (plain : Plain) (worker : ℕ) (call : Call) (o : Option Answer) → refusal board plain worker call ≡ o → Law board plain.regs
     → (refusal board plain worker call ≡ None → Throughout (Law board) board plain.regs (moves_of_call board plain worker call))
     → Throughout (Law board) board plain.regs (planned board plain worker call o)
 planned_by board plain worker call None is law moves = moves is
 planned_by board plain worker call (Some why) is law moves = law
 
-answered_by : (P : Plain → Type 0) (board : Board) (plain : Plain) (worker : ℕ) (call : Call) (stop : Option ℕ) (o : Option Answer) → refusal board plain worker call ≡ o → P plain
+pub answered_by : (P : Plain → Type 0) (board : Board) (plain : Plain) (worker : ℕ) (call : Call) (stop : Option ℕ) (o : Option Answer) → refusal board plain worker call ≡ o → P plain
     → IsWithinPlan stop (planned board plain worker call o)
     → (refusal board plain worker call ≡ None → IsWithinPlan stop (moves_of_call board plain worker call) → P (settled board plain worker call (moves_of_call board plain worker call) stop).1)
     → P (answered board plain worker call stop o).1

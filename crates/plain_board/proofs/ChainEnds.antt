@@ -1,10 +1,12 @@
 -- The way up from a rail ends at one without a supply: in the order of a board supplies stand before what they feed.
-use Rattle.std.proofs.Common.{◌≡◌, ℕ, zero, suc, ◌<◌, ◌≤◌, Bool, true, inl, inr, List, [], ◌∷◌, ◌++◌, Option, Some, None, refl, sym, ap, ◌∙◌, subst, arith, length, append_assoc}
+use Rattle.std.proofs.Common.{◌≡◌, ◌≢◌, ℕ, zero, suc, ◌<◌, ◌≤◌, Bool, true, inl, inr, List, [], ◌∷◌, ◌++◌, Option, Some, None, refl, sym, ap, ◌∙◌, subst, arith, length, append_assoc, All, AllPairs, Contains}
 use Rattle.std.specs.Prelude.{count_by, flat_map, nat_eq, is_none}
 use Rattle.std.specs.Option.{option_map_or}
 use Rattle.std.proofs.lemmas.Bool.{cases_lt, and_parts, or_cases, or_left, or_right, not-true}
-use Rattle.std.proofs.lemmas.List.{append-nil, length-map}
+use Rattle.std.proofs.lemmas.List.{append-nil, length-map, get_or_default}
+use Rattle.std.proofs.lemmas.List.Elements.{All-nil, All-cons, All-contains}
 use Rattle.std.proofs.lemmas.List.Folds.{list_any-append}
+use Rattle.std.proofs.lemmas.List.Kept.{AllPairs-cons}
 use Rattle.std.proofs.lemmas.List.FromFn.{length-range_with_len}
 use Rattle.std.proofs.lemmas.List.Sums.{count_by-le-length}
 use Rattle.std.proofs.lemmas.Option.{slice_get_within}
@@ -16,6 +18,7 @@ use Rattle.board_graph.proofs.Growth.{is_rail}
 use Rattle.board_graph.proofs.Members.{is_member, all_at, at_taken, taken_at, next_is_ready}
 use Rattle.board.specs.declared.board.Board.{Board}
 use Rattle.board.specs.Valid.{IsSoundBoard}
+use Rattle.plain_board.specs.Plan.{upward, chain}
 use Rattle.plain_board.proofs.Run.{no_more, fewer}
 
 -- so many steps up from there end at a rail without a supply
@@ -98,3 +101,32 @@ pub chain_ends : (board : Board) → IsSoundBoard board → (r : ℕ) → r < le
 chain_ends board sound r below =
     let count : count_of board.graph ≡ length board.rails = ap length sound.graph.groups ∙ length-map board.rails _ in
     subst (λ n. ends board.graph n (Some r) ≡ true) count (order_ends board.graph board.order sound.order r (omega arith))
+
+-- a chain that ends has each rail once
+module _ (graph : Graph) where
+  one_less : (n r : ℕ) → ends graph n (Some r) ≡ true → ends graph n (supply_at graph r) ≡ true
+  one_less zero r is = absurd (cc)
+  one_less (suc n) r is = ends_more graph n (supply_at graph r) is
+
+  each_ends : (n most : ℕ) (r : Option ℕ) → ends graph n r ≡ true → All (λ u. ends graph n (Some u) ≡ true) (upward graph most r)
+  each_ends n zero r is = All-nil (λ u. ends graph n (Some u) ≡ true)
+  each_ends n (suc most) None is = All-nil (λ u. ends graph n (Some u) ≡ true)
+  each_ends n (suc most) (Some r) is =
+      All-cons (λ u. ends graph n (Some u) ≡ true) r (upward graph most (supply_at graph r)) is (each_ends n most (supply_at graph r) (one_less n r is))
+
+  not_above : (n most r : ℕ) → ends graph n (Some r) ≡ true → ¬ Contains (upward graph most (supply_at graph r)) r
+  not_above zero most r is has = absurd (cc)
+  not_above (suc n) most r is has =
+      not_above n most r (All-contains (λ u. ends graph n (Some u) ≡ true) (upward graph most (supply_at graph r)) r (each_ends n most (supply_at graph r) is) has) has
+
+  distinct : (n most : ℕ) (r : Option ℕ) → ends graph n r ≡ true → AllPairs (λ i j. i ≢ j) (upward graph most r)
+  distinct n zero r is = λ i j d less within. absurd (omega (arith, within))
+  distinct n (suc most) None is = λ i j d less within. absurd (omega (arith, within))
+  distinct n (suc most) (Some r) is =
+      AllPairs-cons (λ i j. i ≢ j) r (upward graph most (supply_at graph r))
+      (λ k d within same.
+      not_above n most r is (k, within, get_or_default (upward graph most (supply_at graph r)) k r d within ∙ sym same))
+      (distinct n most (supply_at graph r) (one_less n r is))
+
+pub chain_distinct : (board : Board) → IsSoundBoard board → (r : ℕ) → r < length board.rails → AllPairs (λ i j. i ≢ j) (chain board r)
+chain_distinct board sound r below = distinct board.graph (length board.rails) (length board.rails) (Some r) (chain_ends board sound r below)

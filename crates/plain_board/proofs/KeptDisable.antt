@@ -58,7 +58,7 @@ module _ (board : Board) (valid : IsValid board) (untied : IsUntied board) (no_l
   moves = moves_of_call board plain worker (Disable handle)
 
   abbrev IsDown : List (List ℕ) → Type 0
-  IsDown regs = IsGoingDown board valid.sound plain.regs inv.kept.regs hold less regs
+  IsDown regs = IsGoingDown board plain.regs less regs
 
   no_more : (i : ℕ) → is_kept_on less i ≤ is_kept_on plain i
   no_more i = omega (arith, rows_no_more worker handle.bytes one_less (λ row. row.enables) i plain.handles (λ k d within own here. omega arith))

@@ -69,17 +69,18 @@ changing_chain board regs rails =
     ∙ filter-map (λ move. is_other regs move.bits (field_of_move board move)) (switch 1) (reverse rails)
     ∙ ap (map (switch 1)) (filter_agree (λ r. is_other regs 1 (field_of_move board (switch 1 r))) (is_off board regs) (changes_off board regs) (reverse rails))
 
-module _ (board : Board) (no_loads : CountsNoLoads board) (plain : Plain) (worker : ℕ) (handle : ArrayString) where
-  -- the moves of an enable of an open handle: the off rails of its chain come up, from above
-  pub enable_moves_are : (on : IsOpenOn board plain.handles worker handle.bytes) → moves_of_call board plain worker (Enable handle) ≡ on_moves board plain.regs (chain board on.entry.0.0)
-  enable_moves_are on =
-      let counted : List Entry = changed plain worker handle.bytes one_more in
-      ap (for_open [] (enable_moves board plain counted) board) on.is_open
-      ∙ ap (on_rail [] (enable_moves board plain counted) on.entry) on.there
-      ∙ ap (λ moves. changing board plain.regs (moves ++ reverse (map (switch 1) (chain board on.entry.0.0))))
-      (no_mode_moves board no_loads on.entry.0 on.entry.0.0 on.rail (load_sum on.rail (rows_on counted on.entry.0.0)) on.there)
-      ∙ changing_chain board plain.regs (chain board on.entry.0.0)
+-- the moves of an enable of an open handle: the off rails of its chain come up, from above
+pub enable_moves_are : (board : Board) → CountsNoLoads board → (plain : Plain) (worker : ℕ) (handle : ArrayString) (on : IsOpenOn board plain.handles worker handle.bytes)
+    → moves_of_call board plain worker (Enable handle) ≡ on_moves board plain.regs (chain board on.entry.0.0)
+enable_moves_are board no_loads plain worker handle on =
+    let counted : List Entry = changed plain worker handle.bytes one_more in
+    ap (for_open [] (enable_moves board plain counted) board) on.is_open
+    ∙ ap (on_rail [] (enable_moves board plain counted) on.entry) on.there
+    ∙ ap (λ moves. changing board plain.regs (moves ++ reverse (map (switch 1) (chain board on.entry.0.0))))
+    (no_mode_moves board no_loads on.entry.0 on.entry.0.0 on.rail (load_sum on.rail (rows_on counted on.entry.0.0)) on.there)
+    ∙ changing_chain board plain.regs (chain board on.entry.0.0)
 
+module _ (board : Board) (plain : Plain) (worker : ℕ) (handle : ArrayString) where
   abbrev enable_reasons : RailId → Rail → HandleRow → List Reason
   enable_reasons id rail row =
       (plain.suspended, Suspended)
@@ -102,7 +103,7 @@ module _ (board : Board) (no_loads : CountsNoLoads board) (plain : Plain) (worke
 one_more_keeps : KeepsName one_more
 one_more_keeps = record { worker = λ row. refl; handle = λ row. refl; request = λ row. refl; cursor = λ row. refl; exclusive = λ row. refl }
 
-module _ (board : Board) (valid : IsValid board) (untied : IsUntied board) (no_loads : CountsNoLoads board) (plain : Plain) (hold : HoldFields board plain.regs) (inv : Inv board plain) (worker : ℕ) (handle : ArrayString) (enable : IsEnable board no_loads plain worker handle) where
+module _ (board : Board) (valid : IsValid board) (untied : IsUntied board) (no_loads : CountsNoLoads board) (plain : Plain) (hold : HoldFields board plain.regs) (inv : Inv board plain) (worker : ℕ) (handle : ArrayString) (enable : IsEnable board plain worker handle) where
   abbrev entry : Entry
   entry = enable.on.entry
 

@@ -63,7 +63,7 @@ module _ (board : Board) (valid : IsValid board) (untied : IsUntied board) (no_l
   moves = moves_of_call board plain worker ReleaseBoot
 
   abbrev IsDown : List (List ℕ) → Type 0
-  IsDown regs = IsGoingDown board valid.sound plain.regs inv.kept.regs hold released regs
+  IsDown regs = IsGoingDown board plain.regs released regs
 
   no_more : (i : ℕ) → is_kept_on released i ≤ is_kept_on plain i
   no_more i = omega (arith, held_no_more (is_held released i) (is_held plain i) (left_was plain.holds board.rails i))

@@ -31,6 +31,9 @@ pub mod CallKeeps
 pub mod KeptEnable
 pub mod KeptDisable
 pub mod KeptRelease
+pub mod SwitchMoves
+pub mod HandleCallLaws
+pub mod HandleMoves
 pub mod TwoRails
 mod WorkedCoupled
 mod WorkedDemo

@@ -25,6 +25,10 @@ is_kept_on plain i = enables plain i + (if is_held plain i then 1 else 0)
 abbrev pub KeptOn : Plain → ℕ → Type 0
 KeptOn plain i = 0 < is_kept_on plain i
 
+-- the registers while rails of a plain board are switched off: what is kept on is on
+abbrev pub IsGoingDown : Board → List (List ℕ) → Plain → List (List ℕ) → Type 0
+IsGoingDown board first plain regs = IsSwitching board first (KeptOn plain) regs
+
 -- a rail that has this one as its supply and adds no vote is off
 vote_off : (s t : Bool) → s ≡ true → cond {A = ℕ} (s && t) 1 0 ≡ 0 → t ≡ false
 vote_off true true is none = absurd (omega (arith, none))
@@ -58,35 +62,31 @@ module _ (board : Board) (sound : IsSoundBoard board) where
   idle_unused plain r idle = eqb-true (use_count board plain r) 0 (and_parts _ _ idle).1
 
   module _ (first : List (List ℕ)) (chips : length first ≡ board.chips) (hold : HoldFields board first) where
-    -- the registers while rails of a plain board are switched off
-    abbrev pub IsGoingDown : Plain → List (List ℕ) → Type 0
-    IsGoingDown plain regs = IsSwitching board first (KeptOn plain) regs
-
-    pub one_off : (plain : Plain) (r : ℕ) → IsGoingDown plain plain.regs → is_idle board plain r ≡ true → IsGoingDown plain (with_off board plain r).regs
+    pub one_off : (plain : Plain) (r : ℕ) → IsGoingDown board first plain plain.regs → is_idle board plain r ≡ true → IsGoingDown board first plain (with_off board plain r).regs
     one_off plain r state idle =
         let none = idle_unused plain r idle in
         switch_off board sound first chips hold (KeptOn plain) r plain.regs state (no_vote plain r (omega (arith, none))) (λ need. absurd (omega (arith, none, need)))
 
-    chain_by : (plain : Plain) (r : ℕ) (above : List ℕ) (t : Bool) → is_idle board plain r ≡ t → IsGoingDown plain plain.regs
-        → (IsGoingDown plain (with_off board plain r).regs → Throughout (IsGoingDown plain) board (with_off board plain r).regs (chain_off board (with_off board plain r) above))
-        → Throughout (IsGoingDown plain) board plain.regs (cond t (switch 0 r ∷ chain_off board (with_off board plain r) above) [])
+    chain_by : (plain : Plain) (r : ℕ) (above : List ℕ) (t : Bool) → is_idle board plain r ≡ t → IsGoingDown board first plain plain.regs
+        → (IsGoingDown board first plain (with_off board plain r).regs → Throughout (IsGoingDown board first plain) board (with_off board plain r).regs (chain_off board (with_off board plain r) above))
+        → Throughout (IsGoingDown board first plain) board plain.regs (cond t (switch 0 r ∷ chain_off board (with_off board plain r) above) [])
     chain_by plain r above true idle state rest = (state, rest (one_off plain r state idle))
     chain_by plain r above false idle state rest = state
 
     -- each of the rails of a chain that goes off is idle then
-    pub chain_goes_down : (plain : Plain) (rails : List ℕ) → IsGoingDown plain plain.regs → Throughout (IsGoingDown plain) board plain.regs (chain_off board plain rails)
+    pub chain_goes_down : (plain : Plain) (rails : List ℕ) → IsGoingDown board first plain plain.regs → Throughout (IsGoingDown board first plain) board plain.regs (chain_off board plain rails)
     chain_goes_down plain [] state = state
     chain_goes_down plain (r ∷ above) state = chain_by plain r above (is_idle board plain r) refl state (chain_goes_down (with_off board plain r) above)
 
-    sweep_by : (plain : Plain) (r : ℕ) (rest : List ℕ) (t : Bool) → is_idle board plain r ≡ t → IsGoingDown plain plain.regs
-        → (IsGoingDown plain (with_off board plain r).regs → Throughout (IsGoingDown plain) board (with_off board plain r).regs (sweep_off board (with_off board plain r) rest))
-        → Throughout (IsGoingDown plain) board plain.regs (sweep_off board plain rest)
-        → Throughout (IsGoingDown plain) board plain.regs (cond t (switch 0 r ∷ sweep_off board (with_off board plain r) rest) (sweep_off board plain rest))
+    sweep_by : (plain : Plain) (r : ℕ) (rest : List ℕ) (t : Bool) → is_idle board plain r ≡ t → IsGoingDown board first plain plain.regs
+        → (IsGoingDown board first plain (with_off board plain r).regs → Throughout (IsGoingDown board first plain) board (with_off board plain r).regs (sweep_off board (with_off board plain r) rest))
+        → Throughout (IsGoingDown board first plain) board plain.regs (sweep_off board plain rest)
+        → Throughout (IsGoingDown board first plain) board plain.regs (cond t (switch 0 r ∷ sweep_off board (with_off board plain r) rest) (sweep_off board plain rest))
     sweep_by plain r rest true idle state off on = (state, off (one_off plain r state idle))
     sweep_by plain r rest false idle state off on = on
 
     -- and each of a sweep
-    pub sweep_goes_down : (plain : Plain) (rails : List ℕ) → IsGoingDown plain plain.regs → Throughout (IsGoingDown plain) board plain.regs (sweep_off board plain rails)
+    pub sweep_goes_down : (plain : Plain) (rails : List ℕ) → IsGoingDown board first plain plain.regs → Throughout (IsGoingDown board first plain) board plain.regs (sweep_off board plain rails)
     sweep_goes_down plain [] state = state
     sweep_goes_down plain (r ∷ rest) state =
         sweep_by plain r rest (is_idle board plain r) refl state (sweep_goes_down (with_off board plain r) rest) (sweep_goes_down plain rest state)
