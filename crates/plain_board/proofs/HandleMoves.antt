@@ -64,25 +64,21 @@ planned_switches : (board : Board) (plain : Plain) (worker : ℕ) (call : Call) 
 planned_switches board plain worker call bits None is switches = switches is
 planned_switches board plain worker call bits (Some why) is switches = ([], refl)
 
--- what the first so many moves of a plan leave
-abbrev pub IsSwitchedAfter : Board → Plain → ℕ → ℕ → List Move → Type 0
-IsSwitchedAfter board plain bits made moves = AreSwitched board bits (take made moves) plain.regs (after_moves board plain.regs (take made moves))
-
 module _ (board : Board) (sound : IsSoundBoard board) (plain : Plain) (chips : length plain.regs ≡ board.chips) (hold : HoldFields board plain.regs) (worker : ℕ) where
   switched_plan : (call : Call) (bits : ℕ) → bits ≤ 1 → (refusal board plain worker call ≡ None → Switches bits (moves_of_call board plain worker call)) → (made : ℕ)
-      → IsSwitchedAfter board plain bits made (plan board plain worker call)
+      → AreSwitched board bits plain.regs (take made (plan board plain worker call))
   switched_plan call bits one_bit switches made =
       let plans = planned_switches board plain worker call bits (refusal board plain worker call) refl switches in
       switched_after board sound plain.regs chips hold bits one_bit (plan board plain worker call) plans.0 plans.1 made
 
-  pub enable_switches : CountsNoLoads board → (handle : ArrayString) (made : ℕ) → IsSwitchedAfter board plain 1 made (plan board plain worker (Enable handle))
+  pub enable_switches : CountsNoLoads board → (handle : ArrayString) (made : ℕ) → AreSwitched board 1 plain.regs (take made (plan board plain worker (Enable handle)))
   enable_switches no_loads handle =
       switched_plan (Enable handle) 1 (omega arith)
       (λ free.
       let enable = enable_not_refused board plain worker handle free in
       (off_rails board plain.regs (reverse (chain board enable.on.entry.0.0)), enable_moves_are board no_loads plain worker handle enable.on))
 
-  pub disable_switches : CountsNoLoads board → (handle : ArrayString) (made : ℕ) → IsSwitchedAfter board plain 0 made (plan board plain worker (Disable handle))
+  pub disable_switches : CountsNoLoads board → (handle : ArrayString) (made : ℕ) → AreSwitched board 0 plain.regs (take made (plan board plain worker (Disable handle)))
   disable_switches no_loads handle =
       switched_plan (Disable handle) 0 (omega arith)
       (λ free.
@@ -91,7 +87,7 @@ module _ (board : Board) (sound : IsSoundBoard board) (plain : Plain) (chips : l
       let off : List Move = chain_off board given_up (chain board on.entry.0.0) in
       (rails_of_moves off, disable_moves_are board no_loads plain worker handle on ∙ chain_switches board given_up (chain board on.entry.0.0)))
 
-  pub release_switches : (made : ℕ) → IsSwitchedAfter board plain 0 made (plan board plain worker ReleaseBoot)
+  pub release_switches : (made : ℕ) → AreSwitched board 0 plain.regs (take made (plan board plain worker ReleaseBoot))
   release_switches =
       switched_plan ReleaseBoot 0 (omega arith)
       (λ free.

@@ -21,7 +21,7 @@ module _ (board : Board) (sound : IsSoundBoard board) (first : List (List ℕ)) 
   one_more_by false true others own now here there is = is
   one_more_by false false others own now here there is = is ∙ there refl
 
-  pub switched_by_moves : (rails : List ℕ) (regs : List (List ℕ)) → AreSwitchedOnly board first regs → AreSwitched board bits (map (switch bits) rails) regs (after_moves board regs (map (switch bits) rails))
+  pub switched_by_moves : (rails : List ℕ) (regs : List (List ℕ)) → AreSwitchedOnly board first regs → AreSwitched board bits regs (map (switch bits) rails)
   switched_by_moves [] regs only i rail at = refl
   switched_by_moves (r ∷ rest) regs only i rail at =
       let step : IsSwitchedAt board r bits first regs (after_switch board bits r regs) = switched_at board sound first chips hold bits one_bit r regs only in
@@ -31,9 +31,9 @@ module _ (board : Board) (sound : IsSoundBoard board) (first : List (List ℕ)) 
       (switched_by_moves rest (after_switch board bits r regs) step.only i rail at)
 
   -- after the first so many moves of a plan that switches rails
-  pub switched_after : (moves : List Move) (rails : List ℕ) → moves ≡ map (switch bits) rails → (made : ℕ) → AreSwitched board bits (take made moves) first (after_moves board first (take made moves))
+  pub switched_after : (moves : List Move) (rails : List ℕ) → moves ≡ map (switch bits) rails → (made : ℕ) → AreSwitched board bits first (take made moves)
   switched_after moves rails are made =
-      subst (λ all. AreSwitched board bits all first (after_moves board first all)) (sym (ap (take made) are ∙ take-map (switch bits) made rails))
+      subst (AreSwitched board bits first) (sym (ap (take made) are ∙ take-map (switch bits) made rails))
       (switched_by_moves (take made rails) first (nothing_switched board sound first chips hold))
 
 -- the rails of some moves, one after another

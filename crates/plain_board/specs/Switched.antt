@@ -5,7 +5,7 @@ use Rattle.std.specs.Option.{option_map_or}
 use Rattle.board.specs.declared.board.Board.{Board}
 use Rattle.board.specs.declared.rail.Rail.{Rail}
 use Rattle.board.specs.Rail.{is_on}
-use Rattle.rail_law.specs.Moves.{Move}
+use Rattle.rail_law.specs.Moves.{Move, after_moves}
 
 -- rail r is off
 abbrev pub is_off : Board → List (List ℕ) → ℕ → Bool
@@ -19,7 +19,8 @@ off_rails board regs rails = filter (is_off board regs) rails
 abbrev pub is_moved : List Move → ℕ → Bool
 is_moved moves i = list_any (λ move. move.rail.0 == i) moves
 
--- each rail of these moves has its on bit at this, and each other rail has it as before
-abbrev pub AreSwitched : Board → ℕ → List Move → List (List ℕ) → List (List ℕ) → Type 0
-AreSwitched board bits moves before after =
-    (i : ℕ) (rail : Rail) → slice_get board.rails i ≡ Some rail → is_on rail after ≡ (if is_moved moves i then bits == 1 else is_on rail before)
+-- once these moves were made, each rail of theirs has its on bit at this, and each other rail as before
+abbrev pub AreSwitched : Board → ℕ → List (List ℕ) → List Move → Type 0
+AreSwitched board bits regs moves =
+    (i : ℕ) (rail : Rail) → slice_get board.rails i ≡ Some rail
+    → is_on rail (after_moves board regs moves) ≡ (if is_moved moves i then bits == 1 else is_on rail regs)
