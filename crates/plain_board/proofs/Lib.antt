@@ -49,4 +49,5 @@ mod WorkedSeen
 mod WorkedStops
 mod WorkedSupplied
 mod WorkedSuspended
+mod WorkedSwitched
 mod WorkedUntied

@@ -1,5 +1,6 @@
 -- Boards and registers worked out by hand: on which no value binds another, and which hold the fields.
-use Rattle.std.proofs.Common.{◌≡◌, ℕ, zero, suc, ◌<◌, false, List, [], ◌∷◌, Some, refl, sym, ap, ◌∙◌, arith, slice_get, replicate}
+use Rattle.std.proofs.Common.{◌≡◌, ℕ, zero, suc, ◌<◌, true, false, List, [], ◌∷◌, Some, refl, sym, ap, ◌∙◌, arith, slice_get, replicate}
+use Rattle.std.proofs.lemmas.Bool.{true≢false}
 use Rattle.std.proofs.lemmas.Option.{same_Some}
 use Rattle.arrayvec.specs.ArrayString.{ArrayString}
 use Rattle.chip_regs.specs.declared.field.Field.{Field}
@@ -14,11 +15,15 @@ use Rattle.board.specs.declared.board.Board.{Board}
 use Rattle.board.specs.declared.part.Part.{Part}
 use Rattle.board.specs.declared.part.Part.TheVariants.{Selector, Enable, ModePart, SuspendEnable, SuspendSelector}
 use Rattle.board.specs.declared.rail.Rail.{Rail}
+use Rattle.board.specs.declared.state.State.TheVariants.{Mem}
 use Rattle.board.specs.Fields.{field_at}
-use Rattle.board.proofs.Boards.{low_bits, first_buck, coupled_board, io_rail, usb_rail, battery, supplied_board}
+use Rattle.board.specs.Rail.{counts_loads}
+use Rattle.board.proofs.Boards.{low_bits, first_buck, second_buck, coupled_board, io_rail, usb_rail, battery, supplied_board}
 use Rattle.rail_law.proofs.Registers.{pair_at}
-use Rattle.rows.specs.declared.call.Call.TheVariants.{Open, Close, Set, Get}
-use Rattle.plain_board.specs.Untied.{IsUntied, IsBuiltCall, HoldFields}
+use Rattle.rows.specs.declared.call.Call.TheVariants.{Open, Close, Enable, Disable, Set, Load, Get, IsOn, ModeOf, ListSel, Supported, Listen, Events, Suspend, Resume, ReleaseBoot}
+use Rattle.plain_board.specs.Untied.{IsUntied, IsBuiltCall, IsHandleCall, CountsNoLoads, HoldFields}
+use Rattle.plain_board.proofs.PlayedBoards.{load_rail}
+use Rattle.plain_board.proofs.TwoRails.{always_rail, two_board}
 
 -- three rails that supply each other, each in a group of its own, and no dropout that binds
 abbrev untied_board : Board
@@ -81,6 +86,68 @@ get_is_built handle = tt
 
 close_is_not_built : (handle : ArrayString) → ¬ IsBuiltCall (Close handle)
 close_is_not_built handle is = is
+
+-- the calls on handles and the end of the holds, each alone, and those that are none of them
+open_is_on_handles : (handle : ArrayString) → IsHandleCall (Open handle (record { 0 = 3 }) true)
+open_is_on_handles handle = tt
+
+close_is_on_handles : (handle : ArrayString) → IsHandleCall (Close handle)
+close_is_on_handles handle = tt
+
+enable_is_on_handles : (handle : ArrayString) → IsHandleCall (Enable handle)
+enable_is_on_handles handle = tt
+
+disable_is_on_handles : (handle : ArrayString) → IsHandleCall (Disable handle)
+disable_is_on_handles handle = tt
+
+set_is_on_handles : (handle : ArrayString) → IsHandleCall (Set handle 800000 900000)
+set_is_on_handles handle = tt
+
+get_is_on_handles : (handle : ArrayString) → IsHandleCall (Get handle)
+get_is_on_handles handle = tt
+
+is_on_is_on_handles : (handle : ArrayString) → IsHandleCall (IsOn handle)
+is_on_is_on_handles handle = tt
+
+release_ends_holds : IsHandleCall ReleaseBoot
+release_ends_holds = tt
+
+load_is_none : (handle : ArrayString) → ¬ IsHandleCall (Load handle 5)
+load_is_none handle is = is
+
+mode_is_none : (handle : ArrayString) → ¬ IsHandleCall (ModeOf handle)
+mode_is_none handle is = is
+
+list_is_none : (handle : ArrayString) → ¬ IsHandleCall (ListSel handle 5)
+list_is_none handle is = is
+
+supported_is_none : (handle : ArrayString) → ¬ IsHandleCall (Supported handle 5 6)
+supported_is_none handle is = is
+
+listen_is_none : (handle : ArrayString) → ¬ IsHandleCall (Listen handle)
+listen_is_none handle is = is
+
+events_is_none : (handle : ArrayString) → ¬ IsHandleCall (Events handle)
+events_is_none handle is = is
+
+suspend_is_none : ¬ IsHandleCall (Suspend Mem)
+suspend_is_none is = is
+
+resume_is_none : ¬ IsHandleCall Resume
+resume_is_none is = is
+
+-- two bucks whose loads nobody counts
+coupled_counts_none : CountsNoLoads coupled_board
+coupled_counts_none zero rail at = ap counts_loads (sym (same_Some first_buck rail at))
+coupled_counts_none (suc zero) rail at = ap counts_loads (sym (same_Some second_buck rail at))
+coupled_counts_none (suc (suc i)) rail at = absurd (cc)
+
+-- two rails of which the first counts loads, and two of which the second does
+first_counts : ¬ CountsNoLoads two_board
+first_counts none = true≢false (none 0 load_rail refl)
+
+second_counts : ¬ CountsNoLoads (record two_board { rails = always_rail ∷ load_rail ∷ [] })
+second_counts none = true≢false (none 1 load_rail refl)
 
 -- one buck, whose fields lie in five registers of a chip, and one whose selector lies behind the last
 abbrev board_of : Rail → Board
