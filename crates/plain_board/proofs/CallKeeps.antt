@@ -1,8 +1,7 @@
 -- What it takes that a call keeps what holds of a plain board.
-use Rattle.std.proofs.Common.{◌≡◌, ℕ, List, [], Option, Some, None, sym, ap, ◌∙◌, subst, arith, length, take, slice_get}
+use Rattle.std.proofs.Common.{◌≡◌, ℕ, List, Option, ap, arith, length, take}
 use Rattle.std.proofs.lemmas.List.{take_all}
 use Rattle.board.specs.declared.board.Board.{Board}
-use Rattle.board.specs.Valid.{IsSoundBoard}
 use Rattle.rail_law.specs.Law.{Law}
 use Rattle.rail_law.specs.Moves.{Move, after_moves}
 use Rattle.rows.specs.declared.call.Call.{Call}

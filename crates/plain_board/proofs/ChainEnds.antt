@@ -11,7 +11,7 @@ use Rattle.std.proofs.lemmas.List.FromFn.{length-range_with_len}
 use Rattle.std.proofs.lemmas.List.Sums.{count_by-le-length}
 use Rattle.std.proofs.lemmas.Option.{slice_get_within}
 use Rattle.board_graph.specs.declared.graph.Graph.{Graph}
-use Rattle.board_graph.specs.Graph.{count_of, supply_at, IsIn, members}
+use Rattle.board_graph.specs.Graph.{count_of, supply_at, members}
 use Rattle.board_graph.specs.Order.{is_taken, is_supplied, next_group, ComeInTurn, IsOrder}
 use Rattle.board_graph.specs.Sets.{rails_of}
 use Rattle.board_graph.proofs.Growth.{is_rail}
@@ -19,7 +19,7 @@ use Rattle.board_graph.proofs.Members.{is_member, all_at, at_taken, taken_at, ne
 use Rattle.board.specs.declared.board.Board.{Board}
 use Rattle.board.specs.Valid.{IsSoundBoard}
 use Rattle.plain_board.specs.Plan.{upward, chain}
-use Rattle.plain_board.proofs.Run.{no_more, fewer}
+use Rattle.plain_board.proofs.Run.{fewer}
 
 -- so many steps up from there end at a rail without a supply
 abbrev pub ends : Graph → ℕ → Option ℕ → Bool

@@ -1,5 +1,5 @@
 -- The handles when the row of a worker's handle changes, but not its name, its request and its cursor.
-use Rattle.std.proofs.Common.{◌≡◌, ℕ, ◌+◌, ◌≤◌, Bool, true, false, cond, List, [], ◌∷◌, refl, sym, ap, ◌∙◌, subst, arith, map, get_or, sum_by, All, AllPairs}
+use Rattle.std.proofs.Common.{◌≡◌, ℕ, ◌≤◌, Bool, true, false, cond, List, [], ◌∷◌, refl, sym, ap, ◌∙◌, subst, arith, map, get_or, sum_by, All, AllPairs}
 use Rattle.std.specs.Prelude.{◌==◌, IfSome, slice_index_or, length}
 use Rattle.std.proofs.lemmas.List.Elements.{All-map, All-head, All-tail}
 use Rattle.std.proofs.lemmas.Bool.{eqb-true}

@@ -6,7 +6,7 @@ use Rattle.board.specs.declared.board.Board.{Board}
 use Rattle.board.specs.declared.rail.Rail.{Rail}
 use Rattle.use_counts.specs.declared.handle_row.HandleRow.{HandleRow}
 use Rattle.plain_board.specs.declared.plain.Plain.{Plain}
-use Rattle.plain_board.specs.Handles.{Entry, count_own, with_row}
+use Rattle.plain_board.specs.Handles.{count_own, with_row}
 use Rattle.plain_board.specs.Counts.{is_held}
 use Rattle.plain_board.specs.Answer.{with_changed}
 use Rattle.plain_board.specs.Inv.{IsSoundEntry, IsWellKept, StandApart, ShareFairly}

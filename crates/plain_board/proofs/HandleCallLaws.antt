@@ -8,11 +8,10 @@ use Rattle.rows.specs.declared.call.Call.{Call}
 use Rattle.rows.specs.declared.call.Call.TheVariants.{Open, Close, Enable, Disable, Set, Get, IsOn, ReleaseBoot}
 use Rattle.rows.specs.Row.{NamesRail}
 use Rattle.plain_board.specs.declared.plain.Plain.{Plain}
-use Rattle.plain_board.specs.Answer.{done, settled, plan, answer}
+use Rattle.plain_board.specs.Answer.{settled, plan, answer}
 use Rattle.plain_board.specs.History.{IsWithinPlan}
 use Rattle.plain_board.specs.Inv.{Inv}
 use Rattle.plain_board.specs.Law.{Throughout}
-use Rattle.plain_board.specs.Plan.{moves_of_call}
 use Rattle.plain_board.specs.Refusals.{refusal}
 use Rattle.plain_board.specs.Untied.{IsUntied, IsBuiltCall, IsHandleCall, HoldFields, CountsNoLoads}
 use Rattle.plain_board.proofs.CallKeeps.{KeepsAll}

@@ -1,10 +1,10 @@
 -- The moves of the calls on handles, on boards on which loads choose no mode: which they are, and which rails are on after the first so many.
-use Rattle.std.proofs.Common.{◌≡◌, ◌≢◌, ℕ, ◌<◌, ◌≤◌, List, [], ◌∷◌, Option, Some, None, refl, sym, ap, ◌∙◌, subst, arith, length, map, take, reverse, AllPairs}
+use Rattle.std.proofs.Common.{◌≡◌, ◌≢◌, ℕ, ◌<◌, ◌≤◌, List, [], Option, Some, None, refl, sym, ap, ◌∙◌, arith, length, map, take, reverse, AllPairs}
 use Rattle.std.proofs.lemmas.Option.{same_Some}
 use Rattle.arrayvec.specs.ArrayString.{ArrayString}
 use Rattle.board.specs.declared.board.Board.{Board}
 use Rattle.board.specs.Valid.{IsValid, IsSoundBoard}
-use Rattle.rail_law.specs.Moves.{Move, after_moves}
+use Rattle.rail_law.specs.Moves.{Move}
 use Rattle.rows.specs.declared.answer.Answer.{Answer}
 use Rattle.rows.specs.declared.call.Call.{Call}
 use Rattle.rows.specs.declared.call.Call.TheVariants.{Enable, Disable, ReleaseBoot}

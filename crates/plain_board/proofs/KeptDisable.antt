@@ -1,11 +1,10 @@
 -- A disable keeps what holds of a plain board: the enable stays given up, wherever the bus stops the call.
-use Rattle.std.proofs.Common.{◌≡◌, ℕ, ◌+◌, ◌-◌, ◌<◌, ◌≤◌, List, [], ◌∷◌, ◌++◌, Option, Some, None, refl, sym, ap, ◌∙◌, subst, arith, length, take, slice_get, All}
+use Rattle.std.proofs.Common.{◌≡◌, ℕ, ◌-◌, ◌≤◌, List, [], ◌++◌, Option, Some, None, refl, sym, ap, ◌∙◌, subst, arith, length, take, All}
 use Rattle.std.proofs.lemmas.List.{append-nil}
 use Rattle.arrayvec.specs.ArrayString.{ArrayString}
 use Rattle.board.specs.declared.board.Board.{Board}
 use Rattle.board.specs.Valid.{IsValid}
 use Rattle.rail_law.specs.Moves.{Move, after_moves}
-use Rattle.rows.specs.declared.answer.Answer.TheVariants.{Suspended, Unbalanced}
 use Rattle.rows.specs.declared.call.Call.TheVariants.{Disable}
 use Rattle.plain_board.specs.declared.plain.Plain.{Plain}
 use Rattle.plain_board.specs.Handles.{rows_on, with_row, on_rail, for_open}

@@ -1,21 +1,19 @@
 -- An enable keeps what holds of a plain board, whether it is done or stopped on its way.
-use Rattle.std.proofs.Common.{◌≡◌, ℕ, ◌+◌, ◌<◌, ◌≤◌, Bool, true, false, not, cond, List, [], ◌∷◌, ◌++◌, Option, Some, None, inl, inr, refl, sym, ap, ◌∙◌, subst, arith, length, get_or, map, filter, take, reverse, slice_get, sum_by, All}
+use Rattle.std.proofs.Common.{◌≡◌, ℕ, ◌+◌, ◌≤◌, Bool, true, false, not, cond, List, [], ◌∷◌, ◌++◌, Option, Some, None, inl, inr, refl, sym, ap, ◌∙◌, subst, arith, length, get_or, map, filter, take, reverse, slice_get, All}
 use Rattle.std.specs.Prelude.{◌==◌, option_and_then}
 use Rattle.std.specs.Option.{option_map_or}
 use Rattle.std.proofs.lemmas.Bool.{cases_eq, eq-eqb, both_ways}
 use Rattle.std.proofs.lemmas.List.{map-append, reverse-append}
 use Rattle.std.proofs.lemmas.List.Elements.{filter_agree}
-use Rattle.std.proofs.lemmas.Option.{same_Some}
 use Rattle.arrayvec.specs.ArrayString.{ArrayString}
 use Rattle.board.specs.declared.board.Board.{Board}
 use Rattle.board.specs.declared.part.Part.TheVariants.{Enable as EnableBit}
 use Rattle.board.specs.declared.rail.Rail.{Rail}
 use Rattle.board.specs.declared.rail_id.RailId.{RailId}
-use Rattle.board.specs.Rail.{is_on, counts_loads, part_field}
+use Rattle.board.specs.Rail.{is_on, part_field}
 use Rattle.board.specs.Valid.{IsValid}
 use Rattle.rail_law.specs.Moves.{Move, field_of_move, after_moves}
 use Rattle.rows.specs.declared.answer.Answer.TheVariants.{CountFull, Suspended}
-use Rattle.rows.specs.declared.call.Call.{Call}
 use Rattle.rows.specs.declared.call.Call.TheVariants.{Enable}
 use Rattle.use_counts.specs.declared.handle_row.HandleRow.{HandleRow}
 use Rattle.plain_board.specs.declared.plain.Plain.{Plain}
@@ -24,15 +22,14 @@ use Rattle.plain_board.specs.Counts.{load_sum}
 use Rattle.plain_board.specs.Plan.{switch, chain, changed, one_more, is_other, changing, mode_moves, enable_moves, moves_of_call}
 use Rattle.plain_board.specs.Answer.{with_changed, settled}
 use Rattle.plain_board.specs.Inv.{Inv}
-use Rattle.plain_board.specs.Law.{Throughout}
 use Rattle.plain_board.specs.Moved.{after_first}
 use Rattle.plain_board.specs.Refusals.{Reason, most_enables, overloads, refusal}
-use Rattle.plain_board.specs.Switched.{is_off, off_rails}
+use Rattle.plain_board.specs.Switched.{is_off}
 use Rattle.plain_board.specs.Untied.{IsUntied, HoldFields, CountsNoLoads}
 use Rattle.plain_board.proofs.CallKeeps.{KeepsAll, all_taken, after_first_moves, switching_lawful, switching_fields}
 use Rattle.plain_board.proofs.ChangedRow.{KeepsName, IsOwn, rows_no_more}
 use Rattle.plain_board.proofs.Grown.{HasGrown, after_first-grown}
-use Rattle.plain_board.proofs.GrownLists.{held_same, lists_grown, lists_changed}
+use Rattle.plain_board.proofs.GrownLists.{lists_grown, lists_changed}
 use Rattle.plain_board.proofs.KeptSwitched.{kept_on_same, inv_switched}
 use Rattle.plain_board.proofs.OwnHandle.{own_is_only}
 use Rattle.plain_board.proofs.SetMoves.{first_fails, IsOpenOn, open_not_refused}

@@ -1,6 +1,7 @@
 -- The end of the holds of the start keeps what holds of a plain board: rails that are always on stay held.
-use Rattle.std.proofs.Common.{◌≡◌, ℕ, zero, suc, ◌+◌, ◌<◌, ◌≤◌, ◌&&◌, Bool, true, false, cond, List, [], ◌∷◌, Option, Some, None, refl, sym, ap, ◌∙◌, subst, arith, length, map, take, reverse, slice_get}
+use Rattle.std.proofs.Common.{◌≡◌, ℕ, zero, suc, ◌≤◌, ◌&&◌, Bool, true, false, cond, List, [], ◌∷◌, Option, Some, None, refl, sym, ap, ◌∙◌, subst, arith, length, map, take, reverse, slice_get}
 use Rattle.std.specs.Prelude.{unwrap_or}
+use Rattle.std.specs.List.{zip}
 use Rattle.std.proofs.lemmas.Bool.{and_parts, and_from}
 use Rattle.board.specs.declared.board.Board.{Board}
 use Rattle.board.specs.declared.rail.Rail.{Rail}
@@ -8,8 +9,8 @@ use Rattle.board.specs.Valid.{IsValid}
 use Rattle.rail_law.specs.Moves.{Move, after_moves}
 use Rattle.rows.specs.declared.call.Call.TheVariants.{ReleaseBoot}
 use Rattle.plain_board.specs.declared.plain.Plain.{Plain}
-use Rattle.plain_board.specs.Counts.{is_held, enables}
-use Rattle.plain_board.specs.Plan.{always_holds, sweep_off, moves_of_call}
+use Rattle.plain_board.specs.Counts.{is_held}
+use Rattle.plain_board.specs.Plan.{always_holds, moves_of_call}
 use Rattle.plain_board.specs.Answer.{settled}
 use Rattle.plain_board.specs.Inv.{Inv}
 use Rattle.plain_board.specs.Law.{Throughout}
@@ -21,7 +22,6 @@ use Rattle.plain_board.proofs.GrownLists.{lists_held}
 use Rattle.plain_board.proofs.KeptSwitched.{kept_on_same, inv_switched}
 use Rattle.plain_board.proofs.SwitchedOff.{is_kept_on, KeptOn, IsGoingDown, sweep_goes_down}
 use Rattle.plain_board.proofs.Switches.{nothing_switched}
-use Rattle.std.specs.List.{zip}
 
 -- the holds of these rails that are left
 abbrev left_of : List Bool → List Rail → List Bool

@@ -1,13 +1,12 @@
 -- Which rails are on after some moves that switch rails: those of the moves are switched, the others are as before.
-use Rattle.std.proofs.Common.{◌≡◌, ℕ, ◌≤◌, Bool, true, false, cond, ◌||◌, List, [], ◌∷◌, Some, inl, inr, refl, sym, ap, ◌∙◌, subst, arith, length, map, take, slice_get}
+use Rattle.std.proofs.Common.{◌≡◌, ℕ, ◌≤◌, Bool, true, false, cond, ◌||◌, List, [], ◌∷◌, refl, sym, ap, ◌∙◌, subst, length, map, take, slice_get}
 use Rattle.std.specs.Prelude.{◌==◌}
-use Rattle.std.proofs.lemmas.Bool.{cases_eq, eq-eqb, eqb-true, false_from_ne_true}
+use Rattle.std.proofs.lemmas.Bool.{eq-eqb, eqb-true}
 use Rattle.std.proofs.lemmas.List.{take-map}
 use Rattle.board.specs.declared.board.Board.{Board}
-use Rattle.board.specs.declared.rail.Rail.{Rail}
 use Rattle.board.specs.Rail.{is_on}
 use Rattle.board.specs.Valid.{IsSoundBoard}
-use Rattle.rail_law.specs.Moves.{Move, after_moves}
+use Rattle.rail_law.specs.Moves.{Move}
 use Rattle.plain_board.specs.declared.plain.Plain.{Plain}
 use Rattle.plain_board.specs.Plan.{switch, is_idle, with_off, chain_off, sweep_off}
 use Rattle.plain_board.specs.Switched.{is_moved, AreSwitched}

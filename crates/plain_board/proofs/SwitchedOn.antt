@@ -1,23 +1,23 @@
 -- The rails of a chain that are off are switched on from above: each once its supply is on.
-use Rattle.std.proofs.Common.{◌≡◌, ℕ, zero, suc, Bool, true, false, not, cond, List, [], ◌∷◌, ◌++◌, Option, Some, None, refl, sym, ap, ◌∙◌, subst, arith, length, map, filter, take, slice_get, reverse}
+use Rattle.std.proofs.Common.{◌≡◌, ℕ, zero, suc, Bool, true, false, not, cond, List, [], ◌∷◌, ◌++◌, Option, Some, None, refl, sym, ap, ◌∙◌, subst, length, map, slice_get, reverse}
 use Rattle.std.specs.Option.{option_map_or}
 use Rattle.std.proofs.lemmas.Bool.{not-false}
 use Rattle.std.proofs.lemmas.List.{map-append, reverse-append}
 use Rattle.std.proofs.lemmas.List.Elements.{filter-append}
 use Rattle.std.proofs.lemmas.Option.{same_Some, slice_get_within}
-use Rattle.board_graph.specs.Graph.{supply_at, Supplies}
+use Rattle.board_graph.specs.Graph.{supply_at}
 use Rattle.board.specs.declared.board.Board.{Board}
 use Rattle.board.specs.declared.rail.Rail.{Rail}
 use Rattle.board.specs.Rail.{is_on}
 use Rattle.board.specs.Valid.{IsSoundBoard}
 use Rattle.rail_law.specs.Law.{Law}
-use Rattle.rail_law.specs.Moves.{Move, field_of_move, written, after_moves}
+use Rattle.rail_law.specs.Moves.{Move, after_moves}
 use Rattle.plain_board.specs.Law.{Throughout}
 use Rattle.plain_board.specs.Plan.{upward, chain, switch}
 use Rattle.plain_board.specs.Switched.{is_off, off_rails}
 use Rattle.plain_board.specs.Untied.{HoldFields}
 use Rattle.plain_board.proofs.ChainEnds.{ends, chain_ends}
-use Rattle.plain_board.proofs.Switches.{nothing_switched, IsSwitching, after_switch, is_on_now, stays_on, switch_on}
+use Rattle.plain_board.proofs.Switches.{nothing_switched, IsSwitching, after_switch, is_on_now, switch_on}
 use Rattle.plain_board.proofs.Throughout.{Throughout-after, Throughout-append, after_moves-append}
 
 -- each rail that was on

@@ -1,8 +1,7 @@
 -- The registers after on bits were written: each of these reads as written, and all else as before.
-use Rattle.std.proofs.Common.{◌≡◌, ◌≢◌, ℕ, ◌≤◌, Bool, true, false, cond, List, [], ◌∷◌, Option, Some, None, inl, inr, refl, sym, ap, ◌∙◌, subst, arith, length, slice_get}
-use Rattle.std.specs.Prelude.{◌==◌, IfSome, unwrap_or, option_and_then}
-use Rattle.std.specs.Option.{option_map_or}
-use Rattle.std.proofs.lemmas.Bool.{cases_eq, eqb-true, eq-eqb, both_ways, false_from_ne_true}
+use Rattle.std.proofs.Common.{◌≡◌, ◌≢◌, ℕ, ◌≤◌, true, false, List, [], ◌∷◌, Option, Some, None, inl, inr, refl, sym, ap, ◌∙◌, subst, arith, length, slice_get}
+use Rattle.std.specs.Prelude.{◌==◌, unwrap_or, option_and_then}
+use Rattle.std.proofs.lemmas.Bool.{cases_eq, both_ways}
 use Rattle.std.proofs.lemmas.Option.{same_Some}
 use Rattle.chip_regs.specs.declared.field.Field.{Field}
 use Rattle.chip_regs.specs.Registers.{IsImage, CanPut, field_of, with_field}
@@ -18,7 +17,7 @@ use Rattle.board.specs.Table.{uv_of}
 use Rattle.board.specs.Valid.{IsSoundRail, IsSoundBoard}
 use Rattle.board_graph.specs.Graph.{Supplies}
 use Rattle.rail_law.specs.Law.{Law, HaveSuppliesOn}
-use Rattle.rail_law.specs.Moves.{Move, field_of_move, written, after_moves}
+use Rattle.rail_law.specs.Moves.{written, after_moves}
 use Rattle.plain_board.specs.Plan.{switch}
 use Rattle.plain_board.specs.Untied.{IsUntied, HoldFields}
 use Rattle.plain_board.proofs.MovedAlone.{all_at}
