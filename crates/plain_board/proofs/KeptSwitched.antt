@@ -1,15 +1,12 @@
 -- What is kept where on bits alone were changed, on a board on which loads choose no mode and no value binds another.
-use Rattle.std.proofs.Common.{◌≡◌, ℕ, suc, ◌+◌, ◌<◌, ◌&&◌, Bool, true, false, cond, List, [], ◌∷◌, Option, Some, None, inl, inr, refl, sym, ap, ◌∙◌, subst, arith, length, slice_get, All}
-use Rattle.std.specs.Prelude.{if◌then◌else◌, count_by, option_and_then, option_map, unwrap_or}
-use Rattle.std.proofs.lemmas.Bool.{and_parts, cases_lt, eqb-true, both_ways, cases_Bool}
+use Rattle.std.proofs.Common.{◌≡◌, ℕ, suc, ◌+◌, ◌<◌, ◌&&◌, Bool, true, false, cond, List, [], ◌∷◌, Some, inl, inr, refl, sym, ap, ◌∙◌, subst, arith, length, slice_get, All}
+use Rattle.std.specs.Prelude.{if◌then◌else◌, count_by, unwrap_or}
+use Rattle.std.proofs.lemmas.Bool.{and_parts, cases_lt, both_ways, cases_Bool}
 use Rattle.std.proofs.lemmas.List.Sums.{sum_by-cons}
-use Rattle.std.proofs.lemmas.Option.{slice_get-map}
-use Rattle.board_graph.specs.Graph.{Supplies}
 use Rattle.board.specs.declared.board.Board.{Board}
 use Rattle.board.specs.declared.rail.Rail.{Rail}
-use Rattle.board.specs.declared.rail_id.RailId.{RailId}
 use Rattle.board.specs.Rail.{uv, is_on}
-use Rattle.board.specs.Valid.{supply_of, IsSoundBoard}
+use Rattle.board.specs.Valid.{IsSoundBoard}
 use Rattle.rail_law.specs.Law.{HaveSuppliesOn}
 use Rattle.use_counts.specs.Counts.{enables_of}
 use Rattle.plain_board.specs.declared.plain.Plain.{Plain}
@@ -20,7 +17,7 @@ use Rattle.plain_board.specs.Requests.{meets, requests_on}
 use Rattle.plain_board.specs.Untied.{IsUntied, CountsNoLoads}
 use Rattle.plain_board.proofs.KeptUse.{HasSoundHandles}
 use Rattle.plain_board.proofs.Requests.{AsksOn, to_requests, from_requests}
-use Rattle.plain_board.proofs.SwitchedOff.{is_kept_on, KeptOn}
+use Rattle.plain_board.proofs.SwitchedOff.{is_kept_on, KeptOn, rail_supplies}
 use Rattle.plain_board.proofs.Switches.{AreSwitchedOnly, uv_kept, law_switched}
 
 -- where some are counted there is one that passes
@@ -33,17 +30,6 @@ some_counted p (rail ∷ rest) some = elim (cases_Bool (p rail)) [
       let further = some_counted p rest (omega (arith, some, none, sum_by-cons (λ r. cond (p r) 1 0) rail rest)) in
       (suc further.0, further.1, further.2, further.3)
 ]
-
-number_supply : (supply : Option RailId) (r : ℕ) → is_supply r supply ≡ true → option_map (λ (s : RailId). s.0) supply ≡ Some r
-number_supply None r is = absurd (cc)
-number_supply (Some s) r is = ap Some (eqb-true s.0 r is)
-
--- the rail's supply is the graph's
-rail_supplies : (board : Board) → IsSoundBoard board → (upper lower : ℕ) (b : Rail) → slice_get board.rails lower ≡ Some b → is_supply upper b.supply ≡ true → Supplies board.graph upper lower
-rail_supplies board sound upper lower b at is =
-    ap (λ (all : List (Option ℕ)). option_and_then (λ (supply : Option ℕ). supply) (slice_get all lower)) sound.graph.supplies
-    ∙ ap (option_and_then (λ (supply : Option ℕ). supply)) (slice_get-map supply_of board.rails lower ∙ ap (option_map supply_of) at)
-    ∙ number_supply b.supply upper is
 
 -- plain boards with the same handles and holds keep the same rails on
 pub kept_on_same : (first second : Plain) → first.handles ≡ second.handles → first.holds ≡ second.holds → (i : ℕ) → is_kept_on first i ≡ is_kept_on second i

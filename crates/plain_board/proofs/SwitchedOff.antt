@@ -21,6 +21,7 @@ use Rattle.plain_board.proofs.Switches.{IsSwitching, switch_off}
 abbrev pub is_kept_on : Plain → ℕ → ℕ
 is_kept_on plain i = enables plain i + (if is_held plain i then 1 else 0)
 
+-- so nobody switches it off
 abbrev pub KeptOn : Plain → ℕ → Type 0
 KeptOn plain i = 0 < is_kept_on plain i
 
@@ -38,14 +39,22 @@ supply_number : (supply : Option RailId) (r : ℕ) → option_map (λ (s : RailI
 supply_number None r is = absurd (cc)
 supply_number (Some s) r is = eq-eqb s.0 r (same_Some s.0 r is)
 
+number_supply : (supply : Option RailId) (r : ℕ) → is_supply r supply ≡ true → option_map (λ (s : RailId). s.0) supply ≡ Some r
+number_supply None r is = absurd (cc)
+number_supply (Some s) r is = ap Some (eqb-true s.0 r is)
+
 module _ (board : Board) (sound : IsSoundBoard board) where
   -- the graph's supply is the rail's
-  pub is_supply_of : (upper lower : ℕ) (b : Rail) → Supplies board.graph upper lower → slice_get board.rails lower ≡ Some b → is_supply upper b.supply ≡ true
-  is_supply_of upper lower b supplies at =
-      let read : supply_at board.graph lower ≡ supply_of b =
+  supply_read : (lower : ℕ) (b : Rail) → slice_get board.rails lower ≡ Some b → supply_at board.graph lower ≡ supply_of b
+  supply_read lower b at =
       ap (λ (all : List (Option ℕ)). option_and_then (λ (supply : Option ℕ). supply) (slice_get all lower)) sound.graph.supplies
-      ∙ ap (option_and_then (λ (supply : Option ℕ). supply)) (slice_get-map supply_of board.rails lower ∙ ap (option_map supply_of) at) in
-      supply_number b.supply upper (sym read ∙ supplies)
+      ∙ ap (option_and_then (λ (supply : Option ℕ). supply)) (slice_get-map supply_of board.rails lower ∙ ap (option_map supply_of) at)
+
+  is_supply_of : (upper lower : ℕ) (b : Rail) → Supplies board.graph upper lower → slice_get board.rails lower ≡ Some b → is_supply upper b.supply ≡ true
+  is_supply_of upper lower b supplies at = supply_number b.supply upper (sym (supply_read lower b at) ∙ supplies)
+
+  pub rail_supplies : (upper lower : ℕ) (b : Rail) → slice_get board.rails lower ≡ Some b → is_supply upper b.supply ≡ true → Supplies board.graph upper lower
+  rail_supplies upper lower b at is = supply_read lower b at ∙ number_supply b.supply upper is
 
   -- where a rail has no votes none that is on has it as supply
   pub no_vote : (plain : Plain) (r : ℕ) → votes board plain r ≡ 0 → (lower : ℕ) (b : Rail) → Supplies board.graph r lower → slice_get board.rails lower ≡ Some b
@@ -61,6 +70,7 @@ module _ (board : Board) (sound : IsSoundBoard board) where
   idle_unused plain r idle = eqb-true (use_count board plain r) 0 (and_parts _ _ idle).1
 
   module _ (first : List (List ℕ)) (chips : length first ≡ board.chips) (hold : HoldFields board first) where
+    -- an idle rail may go off
     pub one_off : (plain : Plain) (r : ℕ) → IsGoingDown board first plain plain.regs → is_idle board plain r ≡ true → IsGoingDown board first plain (with_off board plain r).regs
     one_off plain r state idle =
         let none = idle_unused plain r idle in

@@ -55,18 +55,19 @@ pub fn handle_calls_keep_inv()
         → HoldFields board (answer board plain worker call stop).1.regs }
 {}
 
-/// There the law holds before such a call, and after each of the moves that it makes.
+/// Where loads choose no mode, the law holds before a call on a handle and after each of the moves that
+/// it makes, and so at the end of the holds of the start.
 pub fn law_after_each_handle_move()
     ensures { (board : Board) (plain : Plain) (worker : ℕ) (call : Call)
         → IsValid board → IsUntied board → CountsNoLoads board → HoldFields board plain.regs → Inv board plain → IsHandleCall call
         → Throughout (Law board) board plain.regs (plan board plain worker call) }
 {}
 
-/// There an enable switches on the rails of its chain that are off, from above; a disable switches off
-/// those of its chain that are idle once the enable is given up, from below; and the end of the holds
-/// of the start those of the board that are idle then, each before its supply. After the first so many
-/// of these moves the rails of the moves are switched, and the others are as before. A rail stands in
-/// a chain once.
+/// Where loads choose no mode, an enable switches on the rails of its chain that are off, from above; a
+/// disable switches off those of its chain that are idle once the enable is given up, from below; and
+/// the end of the holds of the start those of the board that are idle then, each before its supply.
+/// After the first so many of these moves the rails of the moves are switched, and the others are as
+/// before. A rail stands in a chain once.
 pub fn moves_of_handle_calls()
     ensures enable { (board : Board) (plain : Plain) (worker : ℕ) (handle : ArrayString) (entry : Entry)
         → CountsNoLoads board → open_of plain.handles worker handle.bytes ≡ Some entry
