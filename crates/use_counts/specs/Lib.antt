@@ -1,2 +1,4 @@
 pub mod Counts
 pub mod Book
+pub mod Uses
+pub mod Inside

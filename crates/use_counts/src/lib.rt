@@ -2,5 +2,7 @@
 #![tactic(auto)]
 
 mod handle_row;
+mod rail_use;
 
 pub use handle_row::HandleRow;
+pub use rail_use::RailUse;
