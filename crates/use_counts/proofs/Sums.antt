@@ -40,7 +40,7 @@ module _ {rows : List HandleRow} {enables sum : ℕ} (kept : Kept rows enables s
         let inside = slice_get_within rows at row there in
         let few = length-remove rows at inside in
         let behind : at ≤ k → IsSmall (get_or (remove rows at) k d) =
-            λ behind. subst IsSmall (sym (get_or-remove_above rows at d k behind inside)) (kept.small (k + 1) d (omega arith)) in
+        λ behind. subst IsSmall (sym (get_or-remove_above rows at d k behind inside)) (kept.small (k + 1) d (omega arith)) in
         elim (cases_order k at) [
           | inl same ↦ behind (omega arith)
           | inr (inl before) ↦ subst IsSmall (sym (get_or-remove_below rows at d k before inside)) (kept.small k d (omega arith))

@@ -2,7 +2,9 @@
 #![tactic(auto)]
 
 mod handle_row;
+mod mine;
 mod rail_use;
 
 pub use handle_row::HandleRow;
+pub use mine::Mine;
 pub use rail_use::RailUse;
