@@ -1,0 +1,2 @@
+pub mod RailNames
+pub mod CallLines
