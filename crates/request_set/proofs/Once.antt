@@ -1,6 +1,6 @@
 -- Each worker's handle asks once: what stands without its request, and with a new one.
-use Rattle.std.proofs.Common.{◌≡◌, ℕ, ◌<◌, ◌^◌, ◌≢◌, Bool, true, false, cond, List, [], ◌∷◌, Some, None, refl, sym, ap, ◌∙◌, inl, inr, map, length, get_or, filter, not, eq-eqb}
-use Rattle.std.specs.Prelude.{position, remove, find, slice_get, option_map, bytes_eq}
+use Rattle.std.proofs.Common.{◌≡◌, ℕ, ◌<◌, ◌^◌, Bool, true, false, cond, List, [], ◌∷◌, Some, None, refl, sym, ap, ◌∙◌, inl, inr, map, length, get_or, not, eq-eqb}
+use Rattle.std.specs.Prelude.{position, remove, find, slice_get, option_map}
 use Rattle.std.proofs.lemmas.Bool.{and_parts, and_from, eqb-true, false_from_ne_true, false≢true, not-true, cases_order}
 use Rattle.std.proofs.lemmas.List.Elements.{filter_passes, All-filter, All-push}
 use Rattle.std.proofs.lemmas.List.Kept.{AllPairs-filter}

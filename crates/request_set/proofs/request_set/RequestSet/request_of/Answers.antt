@@ -1,6 +1,5 @@
 use Rattle.std.proofs.Common.{ap, ◌∙◌, sym}
 use Rattle.std.specs.Prelude.{position, slice_get, option_map}
-use Rattle.request_set.specs.declared.row.Row.{Row}
 use Rattle.request_set.specs.Requests.{asked_by}
 use Rattle.request_set.specs.Inside.{is_row_of}
 use Rattle.request_set.proofs.Once.{asked_by_row, asked_by_none, asked_in}
