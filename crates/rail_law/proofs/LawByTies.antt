@@ -80,7 +80,7 @@ supply_within n s (Some rail) is below = subst (λ k. k < n) (same_Some rail.0 s
 
 -- a board whose graph is that of its rails, and whose groups have spreads
 module _ (board : Board) (regs : List (List ℕ)) (graph : IsGraphOf board) (spreads : All (λ rail. rail.group < length board.spread) board.rails) where
-  as_many : count_of board.graph ≡ length board.rails
+  pub as_many : count_of board.graph ≡ length board.rails
   as_many = ap length graph.groups ∙ length-map board.rails (λ rail. rail.group)
 
   rail_at : (i : ℕ) → i < count_of board.graph → (a : Rail) × (slice_get board.rails i ≡ Some a)
@@ -89,7 +89,7 @@ module _ (board : Board) (regs : List (List ℕ)) (graph : IsGraphOf board) (spr
   value_at : (i : ℕ) (a : Rail) → slice_get board.rails i ≡ Some a → slice_index (standing_values board regs) i ≡ uv a regs
   value_at i a is = mapped_at (λ rail. uv rail regs) board.rails i a is
 
-  spread_is_there : (i group : ℕ) → IsIn board.graph group i → slice_get board.spread group ≡ Some (slice_index board.spread group)
+  pub spread_is_there : (i group : ℕ) → IsIn board.graph group i → slice_get board.spread group ≡ Some (slice_index board.spread group)
   spread_is_there i group is =
       let rail = rail_at i (slice_get_within board.graph.group i group is) in
       let told : slice_get board.graph.group i ≡ Some rail.0.group =
@@ -106,7 +106,7 @@ module _ (board : Board) (regs : List (List ℕ)) (graph : IsGraphOf board) (spr
       let coupled : AreCoupled board.graph i j = record { apart = λ same. apart (sym same); block = record { group = group; first = first; second = second } } in
       le-leb _ _ (omega (arith, keep i j group (slice_index board.spread group) a.0 b.0 coupled first (spread_is_there i group first) a.1 b.1, value_at i a.0 a.1, value_at j b.0 b.1))
 
-  supply_rail : (i s : ℕ) (a : Rail) → slice_get board.rails i ≡ Some a → Supplies board.graph s i → s < count_of board.graph
+  pub supply_rail : (i s : ℕ) (a : Rail) → slice_get board.rails i ≡ Some a → Supplies board.graph s i → s < count_of board.graph
   supply_rail i s a is supplies =
       let told : slice_get board.graph.supply i ≡ Some (supply_of a) =
       ap (λ supplies. slice_get supplies i) graph.supplies ∙ slice_get-map supply_of board.rails i ∙ ap (option_map supply_of) is in

@@ -11,3 +11,6 @@ pub mod Members
 pub mod LawByTies
 pub mod NextStep
 pub mod WayArrives
+pub mod Updates
+pub mod Judged
+mod WorkedUpdates

@@ -60,7 +60,7 @@ pair_spreads : KeepSpreads coupled_board (pair_at 64 48)
 unfolding values field_of byte_of
 pair_spreads = pair_by_ties (pair_at 64 48) refl
 
-pair_lawful : Law coupled_board (pair_at 64 48)
+pub pair_lawful : Law coupled_board (pair_at 64 48)
 pair_lawful = record { values = pair_stands; spreads = pair_spreads; supplies = pair_supplies (pair_at 64 48); dropouts = pair_dropouts (pair_at 64 48) }
 
 -- the second at 893750 µV is 106250 below the first
@@ -72,7 +72,7 @@ first_too_high : ¬ (uv first_buck (pair_at 64 47) ≤ uv second_buck (pair_at 6
 unfolding values field_of byte_of
 first_too_high is = let h : 1000000 ≤ 893750 + 100000 = is in absurd (omega arith)
 
-too_far : FailsBy (KeepSpreads coupled_board (pair_at 64 47)) (Law coupled_board (pair_at 64 47))
+pub too_far : FailsBy (KeepSpreads coupled_board (pair_at 64 47)) (Law coupled_board (pair_at 64 47))
 too_far = record {
   needs = λ law. law.spreads;
   suffices = λ spreads. record { values = too_far_stands; spreads = spreads; supplies = pair_supplies (pair_at 64 47); dropouts = pair_dropouts (pair_at 64 47) };

@@ -4,3 +4,4 @@ pub mod Law
 pub mod Least
 pub mod Moves
 pub mod Way
+pub mod Inside

@@ -1,7 +1,7 @@
 -- Writes of register fields of rails, and the registers after them.
-use Rattle.std.specs.Prelude.{ℕ, ◌*◌, ◌^◌, ◌==◌, List, [], ◌∷◌, map, find, slice_get, Option, Some, None, unwrap_or, option_map, option_and_then}
+use Rattle.std.specs.Prelude.{ℕ, ◌+◌, ◌-◌, ◌*◌, ◌^◌, ◌==◌, bit_and, List, [], ◌∷◌, map, find, slice_get, Option, Some, None, unwrap_or, option_map, option_and_then}
 use Rattle.chip_regs.specs.declared.field.Field.{Field}
-use Rattle.chip_regs.specs.Registers.{with_field}
+use Rattle.chip_regs.specs.Registers.{byte_of, with_byte, with_field}
 use Rattle.board.specs.declared.board.Board.{Board}
 use Rattle.board.specs.declared.part.Part.{Part}
 use Rattle.board.specs.declared.rail.Rail.{Rail}
@@ -22,6 +22,12 @@ pub record Move : Type 0 where
 -- the field that a move writes, where the rail has it
 abbrev pub field_of_move : Board → Move → Option Field
 field_of_move board move = option_and_then (part_field move.part) (slice_get board.rails move.rail.0)
+
+-- the registers after a masked update of one of them: the bits of the mask are those of the update, and all others stay
+abbrev pub after_write : List (List ℕ) → Write → List (List ℕ)
+after_write regs write =
+    let byte = byte_of regs write.chip write.reg in
+    with_byte regs write.chip write.reg (byte - bit_and byte write.mask + bit_and write.bits write.mask)
 
 -- the registers after a write of a field, where it is there
 abbrev pub written : Option Field → List (List ℕ) → ℕ → List (List ℕ)

@@ -1,5 +1,8 @@
 //! What follows from the definitions.
 ghost use Rattle.std.specs.Prelude.{◌≡◌, ◌≢◌, ◌<◌, ◌↔◌, ℕ, List, [], Some, MatchOption, All, Contains, length, slice_index, slice_index_or};
+ghost use Rattle.chip_regs.specs.declared.field.Field.{Field};
+ghost use Rattle.chip_regs.specs.Field.{IsField, FitsField};
+ghost use Rattle.chip_regs.specs.Registers.{with_field};
 ghost use Rattle.board_graph.specs.declared.graph.Graph.{Graph};
 ghost use Rattle.board_graph.specs.Graph.{count_of};
 ghost use Rattle.board_graph.specs.Order.{IsOrder};
@@ -8,6 +11,7 @@ ghost use Rattle.board.specs.Valid.{IsGraphOf};
 ghost use Rattle.rail_law.specs.Ties.{Tie, KeepsAll};
 ghost use Rattle.rail_law.specs.BoardTies.{standing_values, ties_of};
 ghost use Rattle.rail_law.specs.Law.{KeepSpreads, KeepDropouts};
+ghost use Rattle.rail_law.specs.Moves.{after_write, update_of_field};
 ghost use Rattle.rail_law.specs.Way.{after_steps, way};
 ghost use Rattle.rail_law.specs.Least.{lower, higher, least_vector, IsAdmissible, IsAtMost, IsLeast, AreFewer};
 
@@ -64,4 +68,11 @@ pub fn way_arrives()
 pub fn way_is_of_choices()
     ensures { (graph : Graph) (order : List ℕ) (choices : List (List ℕ)) (now goal : List ℕ)
         → All (λ step. Contains (slice_index_or choices step.0 []) step.1) (way graph order choices now goal) }
+{}
+
+/// The masked update of a write of a number into a field leaves the registers with that number in it.
+pub fn update_is_put()
+    ensures { (regs : List (List ℕ)) (field : Field) (bits : ℕ)
+        → IsField field → FitsField field bits
+        → after_write regs (update_of_field (Some field) bits) ≡ with_field regs field bits }
 {}
