@@ -9,7 +9,9 @@ use Rattle.reg_outside.specs.Told.{with_more}
 use Rattle.reg_outside.proofs.CountFacts.{raised-raised}
 use Rattle.reg_outside.proofs.ToldFacts.{with_more-nil, with_more-with_more}
 use Rattle.board.specs.declared.write.Write.{Write}
-use Rattle.board_load.specs.BringUp.{Bus, update_of, tried_more, TookAll, StoppedAt}
+use Rattle.reg_outside.specs.Bus.{Bus, tried_more}
+use Rattle.plain_board.specs.Update.{update_of}
+use Rattle.board_load.specs.BringUp.{TookAll, StoppedAt}
 
 -- a plan of which so many more updates were tried
 abbrev tried : ℕ → Plan → Plan

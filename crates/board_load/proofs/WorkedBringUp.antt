@@ -7,7 +7,9 @@ use Rattle.std.proofs.lemmas.Bool.{ne_eqb, false≢true}
 use Rattle.reg_outside.specs.Count.{raised}
 use Rattle.reg_outside.specs.Plan.{Plan, refuses, RefusesNoneOfNext}
 use Rattle.board.specs.declared.write.Write.{Write}
-use Rattle.board_load.specs.BringUp.{update_of, Bus, told_by, tried_more, Took, TookAll, StoppedAt}
+use Rattle.plain_board.specs.Update.{update_of}
+use Rattle.reg_outside.specs.Bus.{Bus, told_by, tried_more}
+use Rattle.board_load.specs.BringUp.{Took, TookAll, StoppedAt}
 
 abbrev write : ℕ → Write
 write reg = record { chip = 1; reg = reg; mask = 0x1f; bits = 10 }

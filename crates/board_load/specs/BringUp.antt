@@ -1,32 +1,11 @@
 -- What a wire is told when the writes of loading are made on it.
-use Rattle.std.specs.Prelude.{ℕ, ◌≡◌, ◌+◌, List, map, take, length, slice_get, Option, Some, IfSome}
-use Rattle.std.specs.Option.{option_map}
-use Rattle.reg_outside.specs.Count.{raised, Rose}
-use Rattle.reg_outside.specs.Plan.{Plan, RefusesNoneOfNext}
+use Rattle.std.specs.Prelude.{ℕ, ◌≡◌, ◌+◌, List, map, take, length, slice_get, Some, IfSome}
+use Rattle.reg_outside.specs.Count.{Rose}
+use Rattle.reg_outside.specs.Bus.{Bus, tried_more}
+use Rattle.reg_outside.specs.Plan.{RefusesNoneOfNext}
 use Rattle.reg_outside.specs.Told.{with_more}
 use Rattle.board.specs.declared.write.Write.{Write}
-
--- an update as a wire tells it
-abbrev pub update_of : Write → ℕ × ℕ × ℕ × ℕ
-update_of write = (write.chip, write.reg, write.mask, write.bits)
-
--- updates as a wire tells them
-abbrev pub Updates : Type 0
-Updates = List (ℕ × ℕ × ℕ × ℕ)
-
--- what a wire tells: the updates that it took, the plan of those that it refuses, and how often it refused one
-pub record Bus : Type 0 where
-  pub taken : Option Updates
-  pub plan : Option Plan
-  pub faults : ℕ
-
--- what a wire tells, by what its kind has for each
-abbrev pub told_by : {W : Type 0} → (W → Option Updates) → (W → Option Plan) → (W → ℕ) → W → Bus
-told_by taken plan faults wire = record { taken = taken wire; plan = plan wire; faults = faults wire }
-
--- a told plan once so many more updates were tried
-abbrev pub tried_more : ℕ → Option Plan → Option Plan
-tried_more count told = option_map (λ (plan : Plan). record plan { tried = raised plan.tried count }) told
+use Rattle.plain_board.specs.Update.{update_of}
 
 -- the wire took these writes, one after another, and none of them was planned to be refused
 pub record Took (before after : Bus) (writes : List Write) : Type 0 where

@@ -1,5 +1,6 @@
 ghost use Rattle.std.specs.Prelude.{◌≡◌, IfErr, OnOk};
-ghost use Rattle.board_load.specs.BringUp.{told_by, TookAll, StoppedAt};
+ghost use Rattle.reg_outside.specs.Bus.{told_by};
+ghost use Rattle.board_load.specs.BringUp.{TookAll, StoppedAt};
 
 use crate::loaded::Loaded;
 use reg_outside::Wire;

@@ -12,5 +12,6 @@ pub mod Stops
 pub mod Inv
 pub mod Seen
 pub mod Text
+pub mod Update
 pub mod Untied
 pub mod Switched

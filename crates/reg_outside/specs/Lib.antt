@@ -1,3 +1,4 @@
+pub mod Bus
 pub mod Count
 pub mod MemLab
 pub mod MemSink

@@ -8,7 +8,7 @@ use Rattle.board.specs.declared.board.Board.{Board}
 use Rattle.rail_law.specs.Law.{Law}
 use Rattle.rows.specs.declared.call.Call.{Call}
 use Rattle.rows.specs.declared.row.Row.{Row}
-use Rattle.board_load.specs.BringUp.{update_of}
+use Rattle.plain_board.specs.Update.{update_of}
 use Rattle.plain_board.specs.declared.plain.Plain.{Plain}
 use Rattle.plain_board.specs.History.{replay, moved, legal_after}
 use Rattle.plain_board.specs.Stops.{Refusals, is_planned, are_in_step, tries_of}

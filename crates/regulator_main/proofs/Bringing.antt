@@ -12,7 +12,9 @@ use Rattle.reg_outside.specs.Planned.{PlannedState, count_of}
 use Rattle.reg_outside.specs.Told.{StartsEmpty, with_more}
 use Rattle.reg_outside.proofs.Plans.{refuses-plan_of, count_of-inner}
 use Rattle.board.specs.declared.write.Write.{Write}
-use Rattle.board_load.specs.BringUp.{Updates, update_of, Bus, TookAll, StoppedAt}
+use Rattle.reg_outside.specs.Bus.{Updates, Bus}
+use Rattle.plain_board.specs.Update.{update_of}
+use Rattle.board_load.specs.BringUp.{TookAll, StoppedAt}
 use Rattle.plain_board.specs.Stops.{Refusals, is_planned}
 use Rattle.regulator_main.specs.Bringing.{planned_stop, ToldLoad, BringsUp, StopsLoad}
 use Rattle.regulator_main.specs.Wires.{Wires, OthersStay}

@@ -22,7 +22,7 @@ use Rattle.plain_board.specs.Handles.{Entry, open_of, with_row}
 use Rattle.plain_board.specs.Answer.{settled, with_request, kept_request}
 use Rattle.regulator_main.specs.Desk.{Moves}
 use Rattle.regulator_main.specs.Inside.Way.{way, moves_to}
-use Rattle.board_load.specs.BringUp.{Updates}
+use Rattle.reg_outside.specs.Bus.{Updates}
 use Rattle.regulator_main.specs.Walk.{Makes}
 use Rattle.regulator_main.proofs.LoneBoard.{lone_board, first}
 use Rattle.regulator_main.proofs.LoneSet.{move_to, settled-none, arrived-lone, stopped-lone, changed, changed_within}

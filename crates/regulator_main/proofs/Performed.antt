@@ -21,7 +21,8 @@ use Rattle.plain_board.specs.Untied.{IsUntied, IsBuiltCall, HoldFields}
 use Rattle.plain_board.proofs.CallLaws.{law_after_each_move_lem, calls_keep_inv_lem}
 use Rattle.plain_board.proofs.Throughout.{Throughout-take}
 use Rattle.regulator_main.specs.Desk.{Counts, Took, Performs, tries_for}
-use Rattle.board_load.specs.BringUp.{Updates, update_of}
+use Rattle.reg_outside.specs.Bus.{Updates}
+use Rattle.plain_board.specs.Update.{update_of}
 use Rattle.reg_outside.specs.Plan.{Plan}
 use Rattle.regulator_main.specs.Walk.{Tried}
 use Rattle.regulator_main.proofs.Tries.{tried_still}

@@ -23,7 +23,8 @@ use Rattle.plain_board.specs.Law.{Throughout, LawHolds}
 use Rattle.rail_law.specs.Moves.{writes_of}
 use Rattle.rows.specs.Row.{HasRails}
 use Rattle.plain_board.specs.Stops.{Tries, one_if, tries_of}
-use Rattle.board_load.specs.BringUp.{Updates, update_of}
+use Rattle.reg_outside.specs.Bus.{Updates}
+use Rattle.plain_board.specs.Update.{update_of}
 use Rattle.regulator_main.specs.Desk.{Performs, Counts, tries_for}
 use Rattle.regulator_main.specs.Inside.Script.{PlaysScript, StaysInStep}
 use Rattle.regulator_main.specs.Playing.{turn_of, turns_of}

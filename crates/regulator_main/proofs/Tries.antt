@@ -7,7 +7,7 @@ use Rattle.reg_outside.specs.Count.{raised, count_end}
 use Rattle.reg_outside.specs.Plan.{Plan, refuses, HasSmallNumbers, RefusesNoneOfNext, next_plan, IsPlanned}
 use Rattle.reg_outside.proofs.CountFacts.{raised-raised}
 use Rattle.plain_board.specs.Stops.{Tries, attempts, none_planned, are_in_step}
-use Rattle.board_load.specs.BringUp.{tried_more}
+use Rattle.reg_outside.specs.Bus.{tried_more}
 use Rattle.regulator_main.specs.Walk.{Tried, all_made, stopped_after}
 use Rattle.regulator_main.specs.Inside.Script.{StaysInStep, all_attempts}
 

@@ -18,7 +18,8 @@ use Rattle.rail_law.specs.Moves.{Move, after_moves, writes_of, field_of_move, se
 use Rattle.regulator_main.specs.Inside.Way.{moves_to, way}
 use Rattle.reg_outside.specs.Told.{with_more}
 use Rattle.reg_outside.proofs.ToldFacts.{with_more-nil, with_more-with_more}
-use Rattle.board_load.specs.BringUp.{Updates, update_of}
+use Rattle.reg_outside.specs.Bus.{Updates}
+use Rattle.plain_board.specs.Update.{update_of}
 use Rattle.regulator_main.specs.Walk.{Makes}
 use Rattle.regulator_main.proofs.Nearest.{IsFirst}
 use Rattle.regulator_main.proofs.Steps.{way-same}

@@ -10,7 +10,8 @@ use Rattle.reg_outside.specs.Told.{with_more, StartsEmpty}
 use Rattle.board.specs.declared.board.Board.{Board}
 use Rattle.rows.specs.declared.call.Call.{Call}
 use Rattle.rows.specs.declared.row.Row.{Row}
-use Rattle.board_load.specs.BringUp.{Updates, update_of}
+use Rattle.reg_outside.specs.Bus.{Updates}
+use Rattle.plain_board.specs.Update.{update_of}
 use Rattle.plain_board.specs.declared.plain.Plain.{Plain}
 use Rattle.plain_board.specs.History.{moved, rows_of, is_fault, faults_of}
 use Rattle.plain_board.specs.Stops.{Refusals, is_planned, tries_of, are_in_step, strays}

@@ -4,7 +4,7 @@ use Rattle.std.specs.List.{range_with_len}
 use Rattle.std.specs.Option.{option_map}
 use Rattle.reg_outside.specs.Count.{Rose}
 use Rattle.board.specs.declared.write.Write.{Write}
-use Rattle.board_load.specs.BringUp.{update_of}
+use Rattle.plain_board.specs.Update.{update_of}
 use Rattle.plain_board.specs.Stops.{Refusals, is_planned}
 use Rattle.regulator_main.specs.Wires.{Wires, OthersStay}
 

@@ -11,7 +11,8 @@ use Rattle.rows.specs.declared.answer.Answer.{Answer}
 use Rattle.rows.specs.declared.call.Call.{Call}
 use Rattle.rows.specs.declared.call.Call.TheVariants.{Set}
 use Rattle.rows.specs.Row.{HasRails}
-use Rattle.board_load.specs.BringUp.{Updates, update_of}
+use Rattle.reg_outside.specs.Bus.{Updates}
+use Rattle.plain_board.specs.Update.{update_of}
 use Rattle.plain_board.specs.declared.plain.Plain.{Plain}
 use Rattle.plain_board.specs.Answer.{answer, plan, settled}
 use Rattle.plain_board.specs.History.{stop_of, IsWithinPlan, made_of, is_fault}

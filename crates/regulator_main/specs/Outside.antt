@@ -2,7 +2,7 @@
 use Rattle.std.specs.Prelude.{ℕ, ◌≡◌, ◌+◌, ◌<◌, ◌≤◌, ◌⊎◌, List, take, length, Option}
 use Rattle.reg_outside.specs.Count.{Rose}
 use Rattle.reg_outside.specs.Told.{with_before, with_more, IsSpent}
-use Rattle.board_load.specs.BringUp.{Updates}
+use Rattle.reg_outside.specs.Bus.{Updates}
 use Rattle.session.specs.Session.{session_limit}
 use Rattle.regulator_main.specs.declared.status.Status.{Status}
 use Rattle.regulator_main.specs.declared.status.Status.TheVariants.{WriteFault}

@@ -5,7 +5,7 @@ use Rattle.reg_outside.specs.Count.{RoseBy}
 use Rattle.board.specs.declared.board.Board.{Board}
 use Rattle.rows.specs.declared.call.Call.{Call}
 use Rattle.rows.specs.declared.row.Row.{Row}
-use Rattle.board_load.specs.BringUp.{update_of}
+use Rattle.plain_board.specs.Update.{update_of}
 use Rattle.plain_board.specs.declared.plain.Plain.{Plain}
 use Rattle.plain_board.specs.History.{IsLegal, Keeps, moved}
 use Rattle.plain_board.specs.Law.{LawHolds}

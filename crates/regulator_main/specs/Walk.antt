@@ -4,7 +4,8 @@ use Rattle.reg_outside.specs.Plan.{Plan, RefusesNoneOfNext, HasSmallNumbers}
 use Rattle.reg_outside.specs.Told.{with_more}
 use Rattle.board.specs.declared.board.Board.{Board}
 use Rattle.rail_law.specs.Moves.{Move, after_moves, writes_of}
-use Rattle.board_load.specs.BringUp.{Updates, update_of, tried_more}
+use Rattle.reg_outside.specs.Bus.{Updates, tried_more}
+use Rattle.plain_board.specs.Update.{update_of}
 use Rattle.plain_board.specs.Stops.{Tries, attempts}
 
 -- these moves were made: in the registers, and on the wire

@@ -1,6 +1,6 @@
 -- What a lab counts and tells, by the numbers of its wires: 0 is that of the load, and each worker has its own.
 use Rattle.std.specs.Prelude.{ℕ, ◌≡◌, ◌≢◌, Option}
-use Rattle.board_load.specs.BringUp.{Updates}
+use Rattle.reg_outside.specs.Bus.{Updates}
 
 pub record Wires : Type 0 where
   -- how many faults of a wire were counted

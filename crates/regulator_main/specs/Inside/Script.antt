@@ -7,7 +7,8 @@ use Rattle.board.specs.declared.board.Board.{Board}
 use Rattle.rows.specs.declared.call.Call.{Call}
 use Rattle.rows.specs.declared.row.Row.{Row}
 use Rattle.rows.specs.Row.{NamesRail, HasRails}
-use Rattle.board_load.specs.BringUp.{Updates, update_of, tried_more}
+use Rattle.reg_outside.specs.Bus.{Updates, tried_more}
+use Rattle.plain_board.specs.Update.{update_of}
 use Rattle.plain_board.specs.declared.plain.Plain.{Plain}
 use Rattle.plain_board.specs.History.{moved, faults_of}
 use Rattle.plain_board.specs.Stops.{Tries, attempts, are_in_step}

@@ -3,7 +3,8 @@ use Rattle.std.proofs.lemmas.Bool.{false≢true}
 use Rattle.std.proofs.lemmas.List.{take_more, length-take-le}
 use Rattle.std.proofs.lemmas.Option.{slice_get-get_or}
 use Rattle.board.specs.declared.write.Write.{Write}
-use Rattle.board_load.specs.BringUp.{told_by, TookAll}
+use Rattle.reg_outside.specs.Bus.{told_by}
+use Rattle.board_load.specs.BringUp.{TookAll}
 use Rattle.board_load.proofs.TakenWrites.{took_none, took_more, stopped_at}
 use Rattle.board_load.proofs.writing.bring_up.Goals as goal
 

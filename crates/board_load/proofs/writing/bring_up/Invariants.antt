@@ -1,5 +1,6 @@
 use Rattle.std.proofs.Common.{take}
-use Rattle.board_load.specs.BringUp.{told_by, TookAll}
+use Rattle.reg_outside.specs.Bus.{told_by}
+use Rattle.board_load.specs.BringUp.{TookAll}
 use Rattle.board_load.proofs.writing.bring_up.Given as goal
 
 -- so many of the writes were taken, and none more was tried

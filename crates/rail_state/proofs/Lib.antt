@@ -1,0 +1,4 @@
+pub mod Members
+pub mod Handles
+mod WorkedRequests
+mod WorkedSight
