@@ -18,7 +18,7 @@ use Rattle.plain_board.specs.Refusals.{most_handles}
 use Rattle.plain_board.specs.Requests.{meets, requests_on}
 
 -- two functions that agree at each element of a list have one sum over it
-sum_by_same : {X : Type 0} (f g : X → ℕ) (xs : List X) → All (λ x. f x ≡ g x) xs → sum_by f xs ≡ sum_by g xs
+pub sum_by_same : {X : Type 0} (f g : X → ℕ) (xs : List X) → All (λ x. f x ≡ g x) xs → sum_by f xs ≡ sum_by g xs
 sum_by_same f g [] all = refl
 sum_by_same f g (x ∷ xs) all =
     sum_by-cons f x xs

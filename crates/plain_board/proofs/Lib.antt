@@ -34,6 +34,8 @@ pub mod KeptRelease
 pub mod SwitchMoves
 pub mod HandleCallLaws
 pub mod HandleMoves
+pub mod SwitchedVotes
+pub mod OnInTurn
 pub mod TwoRails
 mod WorkedCoupled
 mod WorkedDemo
