@@ -1,5 +1,5 @@
 -- The names of a board's rails, put into a map one after another.
-use Rattle.std.proofs.Common.{◌≡◌, ◌≢◌, ℕ, suc, ◌+◌, ◌<◌, ◌≤◌, ◌&&◌, Bool, true, false, cond, if◌then◌else◌, nat_le, List, [], length, get_or, option_map, Option, Some, None, bytes_eq, refl, sym, ap, subst, ◌∙◌, inl, inr, arith}
+use Rattle.std.proofs.Common.{◌≡◌, ◌≢◌, ℕ, ◌+◌, ◌<◌, ◌≤◌, ◌&&◌, Bool, true, false, cond, if◌then◌else◌, nat_le, List, [], length, get_or, option_map, Option, Some, None, bytes_eq, refl, sym, ap, subst, ◌∙◌, inl, inr, arith}
 use Rattle.std.specs.List.{All, AllPairs, list_all, slice_get}
 use Rattle.std.specs.Cmp.Lexicographic.{bytes_decides}
 use Rattle.std.specs.Str.{IsUtf8}
@@ -8,7 +8,7 @@ use Rattle.std.proofs.lemmas.Bool.Decides.{nat_tests}
 use Rattle.std.proofs.lemmas.List.{get_or_default}
 use Rattle.std.proofs.lemmas.List.Elements.{All-weaker}
 use Rattle.std.proofs.lemmas.List.Sums.{AllPass-from_list_all, list_all-from_AllPass}
-use Rattle.std.proofs.lemmas.Option.{get_or_from_slice_get, slice_get_within, slice_get-get_or, slice_get_cases}
+use Rattle.std.proofs.lemmas.Option.{get_or_from_slice_get, slice_get_within, slice_get_cases}
 use Rattle.std.proofs.lemmas.Str.{IsUtf8-from_ascii}
 use Rattle.std.proofs.lemmas.Str.Ascii.{IsAscii-from_all}
 use Rattle.arrayvec.specs.ArrayString.{ArrayString}
@@ -34,7 +34,7 @@ pub IsUtf8-name : (word : List ℕ) → is_name word ≡ true → IsUtf8 word
 IsUtf8-name word e =
     IsUtf8-from_ascii word
     (IsAscii-from_all word (All-weaker (λ byte. is_printed byte ≡ true) (λ byte. byte < 128) is_printed-ascii word
-        (AllPass-from_list_all is_printed word (printed-part (nat_le (length word) 64) (list_all is_printed word) e).1)))
+    (AllPass-from_list_all is_printed word (printed-part (nat_le (length word) 64) (list_all is_printed word) e).1)))
 
 printed-test : (byte : ℕ) → IsPrinted byte → is_printed byte ≡ true
 printed-test byte h = grind (arith, nat_tests)
@@ -55,16 +55,16 @@ rail_named-put : (old new : Names) (name : List ℕ) (r : RailId) → is_name na
     → (word : List ℕ) → rail_named new word ≡ if bytes_eq name word then Some r else rail_named old word
 rail_named-put old new name r good put word =
     ap (λ (rail : Option RailId). if is_name word then rail else None) (put word) ∙ by (bytes_eq name word) refl (is_name word) refl
-    where
-      by : (b : Bool) → bytes_eq name word ≡ b → (t : Bool) → is_name word ≡ t
-          → ◌≡◌ {A = Option RailId} (cond t (cond b (Some r) (rail_under old word)) None) (cond b (Some r) (cond t (rail_under old word) None))
-      by true is true fits = refl
-      by true is false fits =
-          let same : is_name name ≡ is_name word = ap is_name ((bytes_decides name word).0 is) in
-          let no : true ≡ false = sym good ∙ same ∙ fits in
-          absurd (cc)
-      by false is true fits = refl
-      by false is false fits = refl
+  where
+    by : (b : Bool) → bytes_eq name word ≡ b → (t : Bool) → is_name word ≡ t
+        → ◌≡◌ {A = Option RailId} (cond t (cond b (Some r) (rail_under old word)) None) (cond b (Some r) (cond t (rail_under old word) None))
+    by true is true fits = refl
+    by true is false fits =
+        let same : is_name name ≡ is_name word = ap is_name ((bytes_decides name word).0 is) in
+        let no : true ≡ false = sym good ∙ same ∙ fits in
+        absurd (cc)
+    by false is true fits = refl
+    by false is false fits = refl
 
 pub rail_named-insert : (old new : Names) (name : ArrayString) (r : RailId) → is_name name.bytes ≡ true
     → ((q : ArrayString) → rail_under new q.bytes ≡ cond (bytes_eq name.bytes q.bytes) (Some r) (rail_under old q.bytes))

@@ -1,6 +1,5 @@
 -- A line is told as one thing alone.
-use Rattle.std.proofs.Common.{◌≡◌, ℕ, ◌^◌, ◌<◌, Bool, true, false, List, Some, None, sym, ap, subst, ◌∙◌, refl}
-use Rattle.arrayvec.specs.ArrayString.{ArrayString}
+use Rattle.std.proofs.Common.{◌≡◌, ℕ, true, false, List, Some, None, sym, ap, ◌∙◌, refl}
 use Rattle.board.specs.declared.rail_id.RailId.{RailId}
 use Rattle.rows.specs.declared.call.Call.{Call}
 use Rattle.rows.specs.declared.call.Call.TheVariants.{Open, Close, Enable, Disable, Set, Load, Get, IsOn, ModeOf, ListSel, Supported, Listen, Events, Suspend, Resume, ReleaseBoot}
@@ -8,7 +7,7 @@ use Rattle.rows.specs.Reading.{Spells, OneSpelling, opens, without_rail}
 use Rattle.script.specs.RailNames.{Names, rail_named}
 use Rattle.script.specs.CallLines.{OpensNamed, IsCallOf, OpensNoRail}
 
-opens-without_rail : (call : Call) → opens (without_rail call) ≡ opens call
+pub opens-without_rail : (call : Call) → opens (without_rail call) ≡ opens call
 opens-without_rail (Open handle rail exclusive) = refl
 opens-without_rail (Close handle) = refl
 opens-without_rail (Enable handle) = refl

@@ -1,5 +1,5 @@
 use Rattle.std.proofs.Common.{◌≡◌, ◌<◌, ◌≤◌, length, get_or, sym, arith}
-use Rattle.script.proofs.Named.{is_name-item, through-next, through-none, through-all}
+use Rattle.script.proofs.Named.{is_name-item, through-next, through-all}
 use Rattle.script.proofs.rail_names.names_of.Goals as goal
 
 pub put-requires : goal.put-requires

@@ -9,8 +9,8 @@ hold-le false = omega arith
 
 pub overflow_add-result : goal.overflow_add-result
 overflow_add-result c =
-    omega (arith, kept-enables-le c.self.invariant, c.from.ensures, hold-le c.self.inside.held)
+    omega (arith, kept-enables-le c.self.invariant, c.from.ensures, hold-le)
 
 pub overflow_add-result-2 : goal.overflow_add-result-2
 overflow_add-result-2 c =
-    omega (arith, kept-enables-le c.self.invariant, c.from.ensures, c.from-2.ensures, hold-le c.self.inside.held)
+    omega (arith, kept-enables-le c.self.invariant, c.from.ensures, c.from-2.ensures, hold-le)
