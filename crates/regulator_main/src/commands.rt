@@ -1,7 +1,6 @@
 ghost use Rattle.std.specs.Prelude.{◌≡◌, ◌≢◌, ◌≤◌, [], length, IfOk, OnOk, map, string_bytes};
 ghost use Rattle.board.specs.Valid.{IsValid};
 ghost use Rattle.plain_board.specs.Inv.{Inv};
-ghost use Rattle.rows.specs.Words.{hex_text};
 ghost use Rattle.session.specs.Session.{ArePlayable};
 ghost use Rattle.session.specs.Text.{refusal_text};
 ghost use Rattle.regulator_main.specs.declared.words.Command.TheVariants.{Check, Solo};
@@ -17,24 +16,18 @@ use crate::status::Status;
 use crate::words::{Command, command_of};
 use plain_board::summary;
 use reg_outside::{Lab, Sink, Source};
+use rows::hex_text;
 use session::laws::one_reading;
 use session::{Session, SessionFault, SessionKind, read_session};
 use std::alloc::{AllocError, Global};
 use std::sync::Wait;
 use std::thread::Threads;
 
-/// A byte in hexadecimal.
-fn hex(alloc: Global, byte: u8) -> Result<String, AllocError>
-    ensures { IfOk result (λ text. string_bytes text ≡ hex_text byte) }
-{
-    format!(in alloc; "0x{byte:02x}")
-}
-
 /// The line of a load that was stopped at the update of this register.
 fn load_fault_line(alloc: Global, chip: u8, reg: u8) -> Result<String, AllocError>
     ensures { IfOk result (λ line. string_bytes line ≡ load_fault_text chip reg) }
 {
-    let reg = hex(alloc, reg)?;
+    let reg = hex_text(alloc, reg)?;
     let words = format!(in alloc; "loadfault {chip} {reg}")?;
     format!(in alloc; "{words}\n")
 }

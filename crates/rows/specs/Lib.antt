@@ -1,4 +1,5 @@
 pub mod Words
+pub mod Names
 pub mod Row
 pub mod CallText
 pub mod AnswerText

@@ -1,5 +1,5 @@
--- Words and lines, as they are printed.
-use Rattle.std.specs.Prelude.{ℕ, ◌+◌, ◌/◌, ◌%◌, nat_lt, Bool, List, [], ◌∷◌, ◌++◌, codes, if◌then◌else◌}
+-- Words and lines, as they are printed and read.
+use Rattle.std.specs.Prelude.{ℕ, ◌≡◌, ◌≢◌, ◌≤◌, ◌+◌, ◌/◌, ◌%◌, nat_lt, Bool, List, [], ◌∷◌, ◌++◌, length, slice_index, codes, if◌then◌else◌}
 use Rattle.std.specs.List.{join_with_byte}
 use Rattle.load_modes.specs.declared.mode.Mode.{Mode}
 use Rattle.load_modes.specs.declared.mode.Mode.TheVariants.{Fast, Normal, Idle, Standby}
@@ -42,3 +42,7 @@ on_text on = if on then codes "on" else codes "off"
 -- an answer to a question
 abbrev pub yes_text : Bool → List ℕ
 yes_text is = if is then codes "yes" else codes "no"
+
+-- neither a plus sign stands in front nor a zero that isn't the whole number
+abbrev pub IsPlain : List ℕ → Type 0
+IsPlain word = (slice_index word 0 ≢ 43) × (slice_index word 0 ≡ 48 → length word ≤ 1)

@@ -5,10 +5,14 @@ mod answer;
 mod answer_text;
 mod call;
 mod call_text;
+mod handles;
+mod numbers;
+pub mod reading;
 mod row;
+mod split;
 mod words;
 
 pub use answer::Answer;
 pub use call::Call;
 pub use row::Row;
-pub use words::{mode_text, on_text};
+pub use words::{hex_text, mode_text, on_text};

@@ -55,7 +55,7 @@ fn hex_digit(n: u8) -> char
 }
 
 /// A byte in hexadecimal.
-pub(crate) fn hex_text(alloc: Global, byte: u8) -> Result<String, AllocError>
+pub fn hex_text(alloc: Global, byte: u8) -> Result<String, AllocError>
     ensures { IfOk result (λ text. string_bytes text ≡ hex_text byte) }
 {
     let high = hex_digit(byte / 16);

@@ -12,7 +12,7 @@ use Rattle.session.specs.Inside.Progress.{is_demo, IsBehind, frame_of}
 use Rattle.session.specs.Inside.Read.{board_text, IsRead, IsFaultOf}
 use Rattle.session.proofs.Frames.{first_line, demo_line, dts_line}
 use Rattle.session.proofs.Leaves.{lines_is, unended_is}
-use Rattle.session.proofs.Separators.{Lacks}
+use Rattle.rows.proofs.Separators.{Lacks}
 
 -- what follows of a value, and of an error
 pub ok_then : {A E : Type 0} (r : Result A E) (P Q : A → Type 0) → IfOk r P → ((x : A) → P x → Q x) → IfOk r Q

@@ -7,7 +7,8 @@ use Rattle.arrayvec.specs.ArrayString.{ArrayString}
 use Rattle.board.specs.declared.rail_id.RailId.{RailId}
 use Rattle.rows.specs.declared.call.Call.{Call}
 use Rattle.rows.specs.declared.call.Call.TheVariants.{Open}
-use Rattle.session.specs.Script.{call_line, IsHandleName, IsScript, Uses}
+use Rattle.rows.specs.Names.{IsHandleName}
+use Rattle.session.specs.Script.{call_line, IsScript, Uses}
 
 -- what stands after `set ` and the name
 pub after_name : (line name a b z : List ℕ) → line ≡ codes "set " ++ a → a ≡ name ++ b → line ≡ codes "set " ++ (name ++ z) → b ≡ z

@@ -13,7 +13,7 @@ use Rattle.session.specs.Inside.Progress.{done_line, worker_line}
 use Rattle.session.proofs.Beginnings.{frame_from_built, built_from_few, few_from_within, begins_larger, begins_part}
 use Rattle.session.proofs.Frames.{differ_at}
 use Rattle.session.proofs.Places.{past_done, workers_behind}
-use Rattle.session.proofs.Separators.{head_is}
+use Rattle.rows.proofs.Separators.{head_is}
 
 no_other : (others : List (List (List ℕ))) → flat_map worker_lines others ++ done_line ∷ [] ≡ done_line ∷ [] → others ≡ []
 no_other [] same = refl

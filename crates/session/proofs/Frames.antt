@@ -11,7 +11,7 @@ use Rattle.session.specs.Frame.{setup_text, IsSetup, BoardPart, Demo, Text, end_
 use Rattle.session.specs.Script.{call_line}
 use Rattle.session.specs.Inside.Progress.{done_line, worker_line}
 use Rattle.session.proofs.SetupLines.{IsSetupLine}
-use Rattle.session.proofs.Separators.{head_is, tail_is}
+use Rattle.rows.proofs.Separators.{head_is, tail_is}
 
 abbrev pub first_line : List ℕ
 first_line = codes "%session 1"

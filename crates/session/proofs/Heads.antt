@@ -7,7 +7,7 @@ use Rattle.session.specs.Grammar.{AreFrame}
 use Rattle.session.specs.Inside.Progress.{Fits, done_line}
 use Rattle.session.proofs.Beginnings.{IsShort, with_workers, within_with}
 use Rattle.session.proofs.Frames.{first_line, demo_line, dts_line, after_board, differ_at, not_board}
-use Rattle.session.proofs.Separators.{head_is, tail_is, not_split}
+use Rattle.rows.proofs.Separators.{head_is, tail_is, not_split}
 
 -- a session of this board alone
 empty_on : (board : BoardPart) → IsBoardPart board → IsWithinLimits (with_workers board [] [])

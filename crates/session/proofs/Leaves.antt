@@ -9,7 +9,7 @@ use Rattle.session.specs.Frame.{Frame, Begins}
 use Rattle.session.specs.Grammar.{AreFrame, LeavesSession, RefusesLine}
 use Rattle.session.specs.Lines.{lines_of, unended}
 use Rattle.session.proofs.LineLaws.{lines_next, unended_next, lines_none}
-use Rattle.session.proofs.Separators.{Lacks}
+use Rattle.rows.proofs.Separators.{Lacks}
 
 -- the first fault stands at the line after these
 pub leaves_at : (good rest : List (List ℕ)) (line tail : List ℕ) (kind : SessionKind) (number : ℕ) → Begins IsWithinLimits good → RefusesLine kind (good ++ line ∷ []) → number ≡ length good + 1 → LeavesSession (good ++ line ∷ rest) tail number kind

@@ -8,7 +8,7 @@ use Rattle.std.proofs.lemmas.List.Elements.{All-weaker}
 use Rattle.std.proofs.lemmas.Slice.Eq.{slice_eq-Decides}
 use Rattle.std.proofs.lemmas.List.Splits.{slice_split_none, slice_split_at, length-slice_split, join_with_byte-slice_split}
 use Rattle.session.specs.Lines.{pieces, lines_of, unended}
-use Rattle.session.proofs.Separators.{Lacks}
+use Rattle.rows.proofs.Separators.{Lacks}
 
 -- all but the last piece, and the last
 front : List (List ℕ) → List (List ℕ)

@@ -8,7 +8,7 @@ use Rattle.session.specs.declared.setup.Setup.{Setup}
 use Rattle.session.specs.Frame.{setup_text, IsSetup, BoardPart, Demo, Text, Frame, frame_lines, IsFrame, end_line, board_lines, worker_lines, HasNoEnd, IsBoardPart}
 use Rattle.session.specs.Inside.Progress.{before_setup, worker_line, done_line}
 use Rattle.session.proofs.Frames.{demo_line, dts_line, after_board, differ_at, setup-≢-worker, setup-≢-done, worker-assoc}
-use Rattle.session.proofs.Separators.{head_is, tail_is, split_once, goes_on}
+use Rattle.rows.proofs.Separators.{head_is, tail_is, split_once, goes_on}
 use Rattle.session.proofs.SetupTexts.{setup_same}
 
 -- the board is the one that was read

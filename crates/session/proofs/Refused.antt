@@ -9,7 +9,7 @@ use Rattle.session.specs.Grammar.{AreFrame}
 use Rattle.session.specs.Inside.Progress.{worker_line, done_line}
 use Rattle.session.proofs.Frames.{after_board, differ_at, worker-assoc, after_board_line, after_worker_line, after_worker_done}
 use Rattle.session.proofs.Places.{lines_to, to-line, past_worker, past_done, setup_behind, workers_behind, worker_left}
-use Rattle.session.proofs.Separators.{head_is, tail_is, not_split}
+use Rattle.rows.proofs.Separators.{head_is, tail_is, not_split}
 use Rattle.session.proofs.SetupLines.{IsSetupLine}
 
 -- what all have, the last ones have

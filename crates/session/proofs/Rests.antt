@@ -20,7 +20,7 @@ use Rattle.session.proofs.Leaves.{lines_is, unended_is, leaves_here, leaves_last
 use Rattle.session.proofs.LineLaws.{lines_none, text_empty}
 use Rattle.session.proofs.Places.{lines_to}
 use Rattle.session.proofs.Refused.{board_ends, between_ends, worker_unended}
-use Rattle.session.proofs.Separators.{Lacks}
+use Rattle.rows.proofs.Separators.{Lacks}
 
 abbrev pub at_first : Bool → Progress
 at_first demo = record { stage = BeforeWorkers; demo = demo; setup = []; scripts = []; script = [] }

@@ -3,8 +3,8 @@ use Rattle.std.proofs.Common.{ℕ, ◌≡◌, ◌^◌, ◌<◌, List, ◌∷◌,
 use Rattle.std.proofs.lemmas.Fmt.{decimal_injective}
 use Rattle.session.specs.declared.setup.Setup.{Setup}
 use Rattle.session.specs.Frame.{setup_text, IsSetup}
-use Rattle.session.proofs.Separators.{split_once}
-use Rattle.session.proofs.Spaces.{Lacks-decimal}
+use Rattle.rows.proofs.Separators.{split_once}
+use Rattle.rows.proofs.Spaces.{Lacks-decimal}
 
 -- two numbers with a space between them are spelled in one way
 pub numbers_same : (m n m' n' : ℕ) → m < 2 ^ 32 → n < 2 ^ 32 → m' < 2 ^ 32 → n' < 2 ^ 32 → decimal m ++ 32 ∷ decimal n ≡ decimal m' ++ 32 ∷ decimal n' → (m ≡ m') × (n ≡ n')

@@ -6,9 +6,9 @@ use Rattle.session.specs.declared.setup.Setup.{Setup}
 use Rattle.session.specs.declared.setup.Setup.TheVariants.{Register, Refusal}
 use Rattle.session.specs.Frame.{setup_text, IsSetup}
 use Rattle.session.proofs.Frames.{differ_at}
-use Rattle.session.proofs.Separators.{split_once}
+use Rattle.rows.proofs.Separators.{split_once}
 use Rattle.session.proofs.SetupLines.{numbers_same}
-use Rattle.session.proofs.Spaces.{Lacks-decimal, Lacks-hex_text}
+use Rattle.rows.proofs.Spaces.{Lacks-decimal, Lacks-hex_text}
 use Rattle.std.proofs.lemmas.Fmt.{decimal_injective}
 
 hex_digit_same : (m n : ℕ) → m < 16 → n < 16 → hex_digit m ≡ hex_digit n → m ≡ n

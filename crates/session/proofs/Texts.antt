@@ -14,7 +14,7 @@ use Rattle.session.proofs.Beginnings.{All-more}
 use Rattle.session.proofs.Frames.{first_line, dts_line}
 use Rattle.session.proofs.Heads.{text_begins, text_ends}
 use Rattle.session.proofs.Leaves.{lines_is, unended_is, leaves_last}
-use Rattle.session.proofs.Separators.{Lacks}
+use Rattle.rows.proofs.Separators.{Lacks}
 
 -- these lines were read of it
 pub record TextSoFar (text rest : List ℕ) (number : ℕ) : Type 0 where

@@ -1,5 +1,4 @@
 pub mod Lines
-pub mod Words
 pub mod Script
 pub mod Frame
 pub mod Forms

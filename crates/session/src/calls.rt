@@ -3,11 +3,9 @@ ghost use Rattle.rows.specs.declared.call.Call.{Call};
 ghost use Rattle.rows.specs.Words.{spaced};
 ghost use Rattle.session.specs.Script.{call_line, IsScript, Uses};
 
-use crate::handles::parse_handle;
-use crate::numbers::parse_number_pair;
-use crate::split::{after_prefix, before_suffix};
 use board::{Handle, RailId};
 use rows::Call;
+use rows::reading::{after_prefix, before_suffix, parse_handle, parse_number_pair};
 
 /// The call that opens a handle on the rail `core`.
 fn parse_open(line: &[u8]) -> Option<Call>

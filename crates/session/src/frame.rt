@@ -9,9 +9,9 @@ ghost use Rattle.session.specs.Session.{session_limit};
 use crate::fault::{SessionFault, SessionKind};
 use crate::progress::Progress;
 use crate::setup::Setup;
-use crate::split::split_first;
 use item_list::Items;
 use rows::Call;
+use rows::reading::split_first;
 use std::alloc::Global;
 
 /// The parts of a session, before its board is read.

@@ -6,15 +6,12 @@ mod calls;
 mod fault;
 mod fault_text;
 mod frame;
-mod handles;
 pub mod laws;
 mod loading;
-mod numbers;
 mod progress;
 mod reading;
 mod session;
 mod setup;
-mod split;
 mod unbuilt;
 
 pub use fault::{SessionFault, SessionKind};

@@ -3,8 +3,7 @@ ghost use Rattle.session.specs.declared.setup.Setup.{Setup as TheSetup};
 ghost use Rattle.session.specs.declared.setup.Setup.TheVariants.{Register, Refusal};
 ghost use Rattle.session.specs.Frame.{setup_text, IsSetup};
 
-use crate::numbers::{parse_hex_pair, parse_number, parse_number_pair};
-use crate::split::{after_prefix, split_first};
+use rows::reading::{after_prefix, parse_hex_pair, parse_number, parse_number_pair, split_first};
 
 /// A line between the board of a session and its workers.
 #[derive(Clone, Copy)]

@@ -4,7 +4,7 @@ use Rattle.rows.specs.declared.call.Call.{Call}
 use Rattle.rows.specs.declared.call.Call.TheVariants.{Open}
 use Rattle.session.specs.Script.{Uses, call_line}
 use Rattle.session.proofs.CallLines.{next_use}
-use Rattle.session.proofs.Options.{none_then}
+use Rattle.rows.proofs.Options.{none_then}
 use Rattle.session.proofs.calls.next_call.Goals as goal
 
 pub returns-in-Some-Open-clause-none : goal.returns-in-Some-Open-clause-none

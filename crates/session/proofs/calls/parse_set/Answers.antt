@@ -1,7 +1,7 @@
 use Rattle.std.proofs.Common.{ℕ, ◌≢◌, ◌≡◌, ◌^◌, ◌<◌, [], ◌∷◌, ◌++◌, decimal, rules}
 use Rattle.rows.specs.Words.{spaced}
 use Rattle.session.proofs.CallLines.{after_name}
-use Rattle.session.proofs.Options.{none_then}
+use Rattle.rows.proofs.Options.{none_then}
 use Rattle.session.proofs.calls.parse_set.Goals as goal
 
 pub returns-in_err-words-3-clause-none : goal.returns-in_err-words-3-clause-none

@@ -1,7 +1,7 @@
 use Rattle.std.proofs.Common.{◌≡◌, ◌∷◌, ◌++◌, [], decimal, ap, sym, ◌∙◌, drop}
 use Rattle.rows.specs.Words.{hex_text, spaced}
-use Rattle.session.proofs.Separators.{not_split}
-use Rattle.session.proofs.Spaces.{first_differs, second_differs, Lacks-decimal}
+use Rattle.rows.proofs.Separators.{not_split}
+use Rattle.rows.proofs.Spaces.{first_differs, second_differs, Lacks-decimal}
 use Rattle.session.proofs.setup.parse_register.Goals as goal
 
 pub returns-in_err-chip-clause-none : goal.returns-in_err-chip-clause-none

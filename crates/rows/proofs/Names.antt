@@ -6,7 +6,7 @@ use Rattle.std.proofs.lemmas.List.Sums.{AllPass-from_list_all}
 use Rattle.std.proofs.lemmas.Str.{IsUtf8-from_ascii}
 use Rattle.std.proofs.lemmas.Str.Ascii.{IsAscii-cons, IsAscii-from_all}
 use Rattle.std.specs.Str.{IsUtf8}
-use Rattle.session.specs.Script.{is_letter, is_name_byte, IsHandleName}
+use Rattle.rows.specs.Names.{is_letter, is_name_byte, IsHandleName}
 
 letter_ascii : (byte : ℕ) → is_letter byte ≡ true → byte < 128
 letter_ascii byte letter = grind (arith, nat_tests)

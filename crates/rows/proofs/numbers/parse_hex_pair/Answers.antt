@@ -1,7 +1,7 @@
 use Rattle.rows.specs.Words.{hex_text}
-use Rattle.session.proofs.Separators.{not_split}
-use Rattle.session.proofs.Spaces.{first_differs, second_differs, Lacks-hex_text}
-use Rattle.session.proofs.numbers.parse_hex_pair.Goals as goal
+use Rattle.rows.proofs.Separators.{not_split}
+use Rattle.rows.proofs.Spaces.{first_differs, second_differs, Lacks-hex_text}
+use Rattle.rows.proofs.numbers.parse_hex_pair.Goals as goal
 
 pub returns-in_err-first-clause-none : goal.returns-in_err-first-clause-none
 returns-in_err-first-clause-none c =

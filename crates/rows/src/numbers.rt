@@ -1,6 +1,5 @@
 ghost use Rattle.std.specs.Prelude.{ℕ, ◌≡◌, ◌≢◌, ◌+◌, ◌^◌, ◌<◌, [], ◌∷◌, decimal, IfSome, IfNone, IsTrue, ◌↔◌};
-ghost use Rattle.rows.specs.Words.{spaced, hex_digit, hex_text};
-ghost use Rattle.session.specs.Words.{IsPlain};
+ghost use Rattle.rows.specs.Words.{spaced, hex_digit, hex_text, IsPlain};
 
 use crate::split::split_first;
 use std::str;
@@ -16,7 +15,7 @@ fn is_plain(word: &[u8]) -> bool
 }
 
 /// The number that this word is the decimal form of.
-pub(crate) fn parse_number(word: &[u8]) -> Option<u32>
+pub fn parse_number(word: &[u8]) -> Option<u32>
     ensures some { IfSome result (λ n. word.now ≡ decimal n) }
     ensures none { IfNone result ((n : ℕ) → n < 2 ^ 32 → word.now ≢ decimal n) }
 {
@@ -40,7 +39,7 @@ fn parse_hex_digit(byte: u8) -> Option<u8>
 }
 
 /// The byte that is spelled as `0x` and these two digits.
-pub(crate) fn parse_hex(word: &[u8]) -> Option<u8>
+pub fn parse_hex(word: &[u8]) -> Option<u8>
     ensures some { IfSome result (λ n. word.now ≡ hex_text n) }
     ensures none { IfNone result ((n : ℕ) → n < 16 ^ 2 → word.now ≢ hex_text n) }
 {
@@ -55,7 +54,7 @@ pub(crate) fn parse_hex(word: &[u8]) -> Option<u8>
 }
 
 /// Two numbers with a space between them.
-pub(crate) fn parse_number_pair(words: &[u8]) -> Option<(u32, u32)>
+pub fn parse_number_pair(words: &[u8]) -> Option<(u32, u32)>
     ensures some { IfSome result (λ n. words.now ≡ spaced (decimal n.0 ∷ decimal n.1 ∷ [])) }
     ensures none { IfNone result ((m n : ℕ) → m < 2 ^ 32 → n < 2 ^ 32 → words.now ≢ spaced (decimal m ∷ decimal n ∷ [])) }
 {
@@ -66,7 +65,7 @@ pub(crate) fn parse_number_pair(words: &[u8]) -> Option<(u32, u32)>
 }
 
 /// Two bytes in hexadecimal with a space between them.
-pub(crate) fn parse_hex_pair(words: &[u8]) -> Option<(u8, u8)>
+pub fn parse_hex_pair(words: &[u8]) -> Option<(u8, u8)>
     ensures some { IfSome result (λ n. words.now ≡ spaced (hex_text n.0 ∷ hex_text n.1 ∷ [])) }
     ensures none { IfNone result ((m n : ℕ) → m < 16 ^ 2 → n < 16 ^ 2 → words.now ≢ spaced (hex_text m ∷ hex_text n ∷ [])) }
 {

@@ -1,7 +1,7 @@
 use Rattle.std.proofs.Common.{decimal}
-use Rattle.session.proofs.Separators.{not_split}
-use Rattle.session.proofs.Spaces.{first_differs, second_differs, Lacks-decimal}
-use Rattle.session.proofs.numbers.parse_number_pair.Goals as goal
+use Rattle.rows.proofs.Separators.{not_split}
+use Rattle.rows.proofs.Spaces.{first_differs, second_differs, Lacks-decimal}
+use Rattle.rows.proofs.numbers.parse_number_pair.Goals as goal
 
 pub returns-in_err-first-clause-none : goal.returns-in_err-first-clause-none
 returns-in_err-first-clause-none c =

@@ -1,6 +1,6 @@
 use Rattle.std.proofs.Common.{◌≡◌, rules}
-use Rattle.session.proofs.Numerals.{not_plain, not_utf8, number_some, number_none}
-use Rattle.session.proofs.numbers.parse_number.Goals as goal
+use Rattle.rows.proofs.Numerals.{not_plain, not_utf8, number_some, number_none}
+use Rattle.rows.proofs.numbers.parse_number.Goals as goal
 
 pub returns-then-not-is_plain-clause-none : goal.returns-then-not-is_plain-clause-none
 returns-then-not-is_plain-clause-none c = not_plain c.args.word.now (search rules)

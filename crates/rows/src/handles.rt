@@ -1,6 +1,6 @@
 ghost use Rattle.std.specs.Prelude.{◌≡◌, IfSome, IfNone, IsTrue, ◌↔◌};
 ghost use Rattle.std.specs.List.{list_all};
-ghost use Rattle.session.specs.Script.{is_letter, is_name_byte, IsHandleName};
+ghost use Rattle.rows.specs.Names.{is_letter, is_name_byte, IsHandleName};
 
 use board::Handle;
 use std::str;
@@ -33,7 +33,7 @@ fn is_handle_name(name: &[u8]) -> bool
 }
 
 /// The handle of this name.
-pub(crate) fn parse_handle(name: &[u8]) -> Option<Handle>
+pub fn parse_handle(name: &[u8]) -> Option<Handle>
     ensures some { IfSome result (λ handle. (handle.bytes ≡ name.now) × IsHandleName name.now) }
     ensures none { IfNone result (IsHandleName name.now → ⊥) }
 {

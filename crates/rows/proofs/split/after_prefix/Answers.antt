@@ -1,5 +1,5 @@
-use Rattle.session.proofs.Prefixes.{prefix_some, prefix_none}
-use Rattle.session.proofs.split.after_prefix.Goals as goal
+use Rattle.rows.proofs.Prefixes.{prefix_some, prefix_none}
+use Rattle.rows.proofs.split.after_prefix.Goals as goal
 
 pub returns-clause-some : goal.returns-clause-some
 returns-clause-some c =

@@ -1,7 +1,7 @@
 ghost use Rattle.std.specs.Prelude.{ℕ, ◌≡◌, ◌≢◌, List, ◌∷◌, ◌++◌, All, IfSome, IfNone};
 
 /// What stands before the first of these separators, and what stands after it.
-pub(crate) fn split_first(text: &[u8], separator: u8) -> Option<(&[u8], &[u8])>
+pub fn split_first(text: &[u8], separator: u8) -> Option<(&[u8], &[u8])>
     ensures parts { IfSome result (λ parts. text.now ≡ parts.0.now ++ separator ∷ parts.1.now) }
     ensures first { IfSome result (λ parts. All (λ byte. byte ≢ separator) parts.0.now) }
     ensures none { IfNone result (All (λ byte. byte ≢ separator) text.now) }
@@ -11,7 +11,7 @@ pub(crate) fn split_first(text: &[u8], separator: u8) -> Option<(&[u8], &[u8])>
 }
 
 /// What stands after this prefix.
-pub(crate) fn after_prefix<'a>(text: &'a [u8], prefix: &[u8]) -> Option<&'a [u8]>
+pub fn after_prefix<'a>(text: &'a [u8], prefix: &[u8]) -> Option<&'a [u8]>
     ensures some { IfSome result (λ rest. text.now ≡ prefix.now ++ rest.now) }
     ensures none { IfNone result ((rest : List ℕ) → text.now ≢ prefix.now ++ rest) }
 {
@@ -19,7 +19,7 @@ pub(crate) fn after_prefix<'a>(text: &'a [u8], prefix: &[u8]) -> Option<&'a [u8]
 }
 
 /// What stands before this suffix.
-pub(crate) fn before_suffix<'a>(text: &'a [u8], suffix: &[u8]) -> Option<&'a [u8]>
+pub fn before_suffix<'a>(text: &'a [u8], suffix: &[u8]) -> Option<&'a [u8]>
     ensures some { IfSome result (λ rest. text.now ≡ rest.now ++ suffix.now) }
     ensures none { IfNone result ((rest : List ℕ) → text.now ≢ rest ++ suffix.now) }
 {

@@ -5,8 +5,8 @@ use Rattle.std.proofs.lemmas.List.Elements.{All-nil, All-cons, All-from_get_or}
 use Rattle.std.proofs.lemmas.Str.Parse.{not_in_digits}
 use Rattle.std.proofs.lemmas.Fmt.{digits_decimal}
 use Rattle.rows.specs.Words.{hex_digit, hex_text}
-use Rattle.session.proofs.Numerals.{decimal_model}
-use Rattle.session.proofs.Separators.{Lacks, split_once}
+use Rattle.rows.proofs.Numerals.{decimal_model}
+use Rattle.rows.proofs.Separators.{Lacks, split_once}
 
 pub Lacks-decimal : (n : ℕ) → n < 2 ^ 32 → Lacks 32 (decimal n)
 Lacks-decimal n small =

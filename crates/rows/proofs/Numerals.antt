@@ -7,7 +7,7 @@ use Rattle.std.proofs.lemmas.Bool.{cases_lt}
 use Rattle.std.proofs.lemmas.Str.{IsUtf8-from_ascii}
 use Rattle.std.proofs.lemmas.Str.Parse.{IsNumeralModel, numerals_by_value, tells_digits, parse_plain, not_in_digits}
 use Rattle.std.proofs.lemmas.Fmt.{IsAscii-decimal, first_decimal, decimal_digit, digits_decimal, decimal_nonempty, parse-decimal, decimal-digits_value}
-use Rattle.session.specs.Words.{IsPlain}
+use Rattle.rows.specs.Words.{IsPlain}
 
 -- what std's lemmas want of the digits of a number
 pub decimal_model : IsNumeralModel (AllDigits 10) (digits_value 10)

@@ -3,9 +3,9 @@ use Rattle.std.specs.List.{AllWithin, HoldsAt}
 use Rattle.std.proofs.lemmas.Iterator.{YieldsList-from_slice, IsFirst-from_position}
 use Rattle.std.proofs.lemmas.List.Elements.{All-from_all_within}
 use Rattle.std.proofs.lemmas.Option.{MatchOption-at_some, MatchOption-at_none}
-use Rattle.session.proofs.Separators.{cut_at, before_cut}
-use Rattle.session.proofs.split.split_first.Goals as goal
-use Rattle.session.proofs.split.split_first.Goals.{After-position}
+use Rattle.rows.proofs.Separators.{cut_at, before_cut}
+use Rattle.rows.proofs.split.split_first.Goals as goal
+use Rattle.rows.proofs.split.split_first.Goals.{After-position}
 
 -- the place is that of the first separator
 abbrev IsFirst : (c : After-position) (i : ℕ) → Type 0

@@ -1,5 +1,5 @@
-use Rattle.session.proofs.Prefixes.{suffix_some, suffix_none}
-use Rattle.session.proofs.split.before_suffix.Goals as goal
+use Rattle.rows.proofs.Prefixes.{suffix_some, suffix_none}
+use Rattle.rows.proofs.split.before_suffix.Goals as goal
 
 pub returns-clause-some : goal.returns-clause-some
 returns-clause-some c =
