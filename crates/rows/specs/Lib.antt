@@ -3,3 +3,5 @@ pub mod Names
 pub mod Row
 pub mod CallText
 pub mod AnswerText
+pub mod Reading
+pub mod Fits

@@ -72,3 +72,14 @@ pub enum Call {
     /// Ends what holds rails on since the start.
     ReleaseBoot,
 }
+
+impl Call {
+    ghost use Rattle.std.specs.Prelude.{◌≡◌};
+
+    /// The same call.
+    pub fn copy(&self) -> Call
+        ensures { result ≡ self.now }
+    {
+        *self
+    }
+}
