@@ -1,4 +1,6 @@
 pub mod Appended
+pub mod CallWords
+pub mod Cuts
 pub mod Names
 pub mod Numerals
 pub mod Options

@@ -5,7 +5,7 @@ use Rattle.board.specs.declared.rail_id.RailId.{RailId}
 use Rattle.rows.specs.declared.call.Call.{Call}
 use Rattle.rows.specs.declared.call.Call.TheVariants.{Open, Close, Enable, Disable, Set, Load, Get, IsOn, ModeOf, ListSel, Supported, Listen, Events, Suspend, Resume, ReleaseBoot}
 use Rattle.rows.specs.Names.{IsHandleName}
-use Rattle.rows.specs.CallText.{call_text}
+use Rattle.rows.specs.CallText.{call_words, call_text}
 
 -- a handle's name has its form, and each number fits its type
 abbrev pub IsCall : Call → Type 0
@@ -45,6 +45,16 @@ pub record Spells (word : List ℕ) (call : Call) (line : List ℕ) : Type 0 whe
   pub is : IsCall call
   pub naming : NamesBy call word
   pub spelled : line ≡ call_text (λ _. word) call
+
+-- these words are those of the call, with this word for its rail
+pub record SpellsWords (word : List ℕ) (call : Call) (words : List (List ℕ)) : Type 0 where
+  pub is : IsCall call
+  pub naming : NamesBy call word
+  pub spelled : words ≡ call_words (λ _. word) call
+
+-- these words are those of no call
+abbrev pub NoCall : List (List ℕ) → Type 0
+NoCall words = (word : List ℕ) (call : Call) → ¬ SpellsWords word call words
 
 -- the rail of a call that opens a handle is this one
 abbrev pub OpensAt : ℕ → Call → Type 0

@@ -1,5 +1,5 @@
 -- Words and lines, as they are printed and read.
-use Rattle.std.specs.Prelude.{ℕ, ◌≡◌, ◌≢◌, ◌≤◌, ◌+◌, ◌/◌, ◌%◌, nat_lt, Bool, List, [], ◌∷◌, ◌++◌, length, slice_index, codes, if◌then◌else◌}
+use Rattle.std.specs.Prelude.{ℕ, ◌≡◌, ◌≢◌, ◌≤◌, ◌<◌, ◌+◌, ◌/◌, ◌%◌, nat_lt, Bool, List, [], ◌∷◌, ◌++◌, All, length, slice_index, codes, if◌then◌else◌}
 use Rattle.std.specs.List.{join_with_byte}
 use Rattle.load_modes.specs.declared.mode.Mode.{Mode}
 use Rattle.load_modes.specs.declared.mode.Mode.TheVariants.{Fast, Normal, Idle, Standby}
@@ -46,3 +46,7 @@ yes_text is = if is then codes "yes" else codes "no"
 -- neither a plus sign stands in front nor a zero that isn't the whole number
 abbrev pub IsPlain : List ℕ → Type 0
 IsPlain word = (slice_index word 0 ≢ 43) × (slice_index word 0 ≡ 48 → length word ≤ 1)
+
+-- each byte is ASCII
+abbrev pub IsAsciiWord : List ℕ → Type 0
+IsAsciiWord word = All (λ byte. byte < 128) word

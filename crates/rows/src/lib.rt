@@ -4,6 +4,7 @@
 mod answer;
 mod answer_text;
 mod call;
+mod call_reading;
 mod call_text;
 mod handles;
 mod numbers;
