@@ -9,7 +9,7 @@ use Rattle.rows.specs.declared.call.Call.{Call}
 use Rattle.rows.specs.declared.call.Call.TheVariants.{Open, Close, Enable, Disable, Set, Load, Get, IsOn, ModeOf, ListSel, Supported, Listen, Events, Suspend, Resume, ReleaseBoot}
 use Rattle.rows.specs.CallText.{call_words, call_text}
 use Rattle.rows.specs.Names.{IsHandleName}
-use Rattle.rows.specs.Reading.{IsCall, NamesBy, NoCall, Spells, SpellsWords}
+use Rattle.rows.specs.Reading.{IsCall, LacksSpace, NameLacks, NoCall, SpellsLine, SpellsWords}
 use Rattle.rows.specs.Words.{spaced, state_text}
 use Rattle.rows.proofs.Cuts.{Dense, Dense-decimal, Dense-name, Lacks-dense, dense_by_test, AllLack, LackBefore, spaced_same, spaced_within}
 use Rattle.rows.proofs.Separators.{Lacks}
@@ -36,26 +36,7 @@ module _ (sep : ℕ) (low : sep ≤ 32) (name : RailId → List ℕ) where
   number : (n : ℕ) → n < 2 ^ 32 → Lacks sep (decimal n)
   number n small = Lacks-dense sep (decimal n) low (Dense-decimal n (omega arith))
 
-  -- the name of the rail, where the call names one
-  abbrev pub NameLacks : Call → Type 0
-  NameLacks (Open handle rail exclusive) = Lacks sep (name rail)
-  NameLacks (Close handle) = Unit {0}
-  NameLacks (Enable handle) = Unit {0}
-  NameLacks (Disable handle) = Unit {0}
-  NameLacks (Set handle lo hi) = Unit {0}
-  NameLacks (Load handle ua) = Unit {0}
-  NameLacks (Get handle) = Unit {0}
-  NameLacks (IsOn handle) = Unit {0}
-  NameLacks (ModeOf handle) = Unit {0}
-  NameLacks (ListSel handle sel) = Unit {0}
-  NameLacks (Supported handle lo hi) = Unit {0}
-  NameLacks (Listen handle) = Unit {0}
-  NameLacks (Events handle) = Unit {0}
-  NameLacks (Suspend state) = Unit {0}
-  NameLacks Resume = Unit {0}
-  NameLacks ReleaseBoot = Unit {0}
-
-  pub call_words_lack : (call : Call) → IsCall call → NameLacks call → AllLack sep (call_words name call)
+  pub call_words_lack : (call : Call) → IsCall call → NameLacks sep name call → AllLack sep (call_words name call)
   call_words_lack (Open handle rail exclusive) is named = (Lacks-dense sep (cond exclusive (codes "openx") (codes "open")) low (opening_dense exclusive), (called handle.bytes is.0, (named, tt)))
   call_words_lack (Close handle) is named = (text (codes "close") refl, (called handle.bytes is, tt))
   call_words_lack (Enable handle) is named = (text (codes "enable") refl, (called handle.bytes is, tt))
@@ -93,8 +74,8 @@ call_words_few name Resume = (omega arith, omega arith)
 call_words_few name ReleaseBoot = (omega arith, omega arith)
 
 -- the word of a call has no space
-pub word_lacks : (word : List ℕ) (call : Call) → NamesBy call word → NameLacks 32 (omega arith) (λ _. word) call
-word_lacks word (Open handle rail exclusive) named = named.1
+pub word_lacks : (word : List ℕ) (call : Call) → LacksSpace call word → NameLacks 32 (λ _. word) call
+word_lacks word (Open handle rail exclusive) named = named
 word_lacks word (Close handle) named = tt
 word_lacks word (Enable handle) named = tt
 word_lacks word (Disable handle) named = tt
@@ -111,7 +92,7 @@ word_lacks word (Suspend state) named = tt
 word_lacks word Resume named = tt
 word_lacks word ReleaseBoot named = tt
 
-module _ (line word : List ℕ) (call : Call) (spells : Spells word call line) where
+module _ (line word : List ℕ) (call : Call) (spells : SpellsLine word call line) where
   lack : AllLack 32 (call_words (λ _. word) call)
   lack = call_words_lack 32 (omega arith) (λ _. word) call spells.is (word_lacks word call spells.naming)
 
@@ -133,14 +114,18 @@ module _ (line word : List ℕ) (call : Call) (spells : Spells word call line) w
         spelled = spaced_within words (call_words (λ _. word) call) apart lack (omega arith) few.0 (omega arith) (sym split ∙ spells.spelled);
       }
 
+-- the words of a call are cut at spaces, and there are some
+pub words_lack : (line word : List ℕ) (call : Call) → SpellsLine word call line → AllLack 32 (call_words (λ _. word) call) × (0 < length (call_words (λ _. word) call))
+words_lack line word call spells = (lack line word call spells, (call_words_few (λ _. word) call).0)
+
 -- what is spelled in words is spelled in their line
-pub line_of : (line word : List ℕ) (call : Call) (words : List (List ℕ)) → line ≡ spaced words → SpellsWords word call words → Spells word call line
+pub line_of : (line word : List ℕ) (call : Call) (words : List (List ℕ)) → line ≡ spaced words → SpellsWords word call words → SpellsLine word call line
 line_of line word call words split spells =
     record { is = spells.is; naming = spells.naming; spelled = split ∙ ap spaced spells.spelled }
 
 -- a line whose words are those of no call is that of no call
-pub no_line : (line : List ℕ) (words : List (List ℕ)) → line ≡ spaced words → AllLack 32 words → 0 < length words → NoCall words → (word : List ℕ) (call : Call) → ¬ Spells word call line
+pub no_line : (line : List ℕ) (words : List (List ℕ)) → line ≡ spaced words → AllLack 32 words → 0 < length words → NoCall words → (word : List ℕ) (call : Call) → ¬ SpellsLine word call line
 no_line line words split apart some none word call spells = none word call (words_told line word call spells words split apart some)
 
-pub no_long_line : (line : List ℕ) (words : List (List ℕ)) → line ≡ spaced words → LackBefore 32 words → length words ≡ 4 → NoCall words → (word : List ℕ) (call : Call) → ¬ Spells word call line
+pub no_long_line : (line : List ℕ) (words : List (List ℕ)) → line ≡ spaced words → LackBefore 32 words → length words ≡ 4 → NoCall words → (word : List ℕ) (call : Call) → ¬ SpellsLine word call line
 no_long_line line words split apart four none word call spells = none word call (four_told line word call spells words split apart four)

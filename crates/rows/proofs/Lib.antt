@@ -1,10 +1,13 @@
 pub mod Appended
+pub mod CallFronts
 pub mod CallWords
 pub mod Cuts
 pub mod Names
 pub mod Numerals
+pub mod OneSpelling
 pub mod Options
 pub mod Prefixes
 pub mod Separators
 pub mod Spaces
+pub mod Spellings
 pub mod WorkedTexts

@@ -58,33 +58,37 @@ FitsEvent AbortDisable = Unit {0}
 abbrev pub FitsNow : Board → RailId × ℕ → Type 0
 FitsNow board now = (now.0.0 < length board.rails) × (now.1 < 2 ^ 32)
 
--- an answer that the call may be given: what it is told when it is done, or any refusal, with numbers that fit their types
-abbrev pub FitsAnswer : Board → Call → Answer → Type 0
-FitsAnswer board call Ok = told call ≡ Nothing
-FitsAnswer board call (OkTime delay) = (told call ≡ Delay) × (delay < 2 ^ 64)
-FitsAnswer board call (OkSet uv delay) = (told call ≡ UvAndDelay) × (uv < 2 ^ 32) × (delay < 2 ^ 64)
-FitsAnswer board call (OkMode mode) = told call ≡ AMode
-FitsAnswer board call (OkUv uv) = (told call ≡ Uv) × (uv < 2 ^ 32)
-FitsAnswer board call (OkOn on) = told call ≡ OnOrOff
-FitsAnswer board call (OkList uv) = (told call ≡ UvOrNone) × IfSome uv (λ n. n < 2 ^ 32)
-FitsAnswer board call (OkYes is) = told call ≡ YesOrNo
-FitsAnswer board call (OkEvents list) = (told call ≡ TheEvents) × (length list ≤ 64) × All FitsEvent list
-FitsAnswer board call (BadRange lo hi) = (lo < 2 ^ 32) × (hi < 2 ^ 32)
-FitsAnswer board call NoValue = Unit {0}
-FitsAnswer board call (Unbalanced enables) = enables ≡ 0
-FitsAnswer board call (CountFull enables) = enables ≡ 65535
-FitsAnswer board call (StillEnabled enables) = enables < 2 ^ 32
-FitsAnswer board call (Taken handles) = handles < 2 ^ 32
-FitsAnswer board call HandleOpen = Unit {0}
-FitsAnswer board call (HandlesFull handles) = handles ≡ 64
-FitsAnswer board call NoHandle = Unit {0}
-FitsAnswer board call NotAllowed = Unit {0}
-FitsAnswer board call (NoMode sum) = sum < 2 ^ 64
-FitsAnswer board call NotListening = Unit {0}
-FitsAnswer board call Suspended = Unit {0}
-FitsAnswer board call NotSuspended = Unit {0}
-FitsAnswer board call (Fault chip reg applied now) =
+-- an answer to a call that is told this when it is done: that, or any refusal, with numbers that fit their types
+abbrev pub FitsTold : Board → Told → Answer → Type 0
+FitsTold board kind Ok = kind ≡ Nothing
+FitsTold board kind (OkTime delay) = (kind ≡ Delay) × (delay < 2 ^ 64)
+FitsTold board kind (OkSet uv delay) = (kind ≡ UvAndDelay) × (uv < 2 ^ 32) × (delay < 2 ^ 64)
+FitsTold board kind (OkMode mode) = kind ≡ AMode
+FitsTold board kind (OkUv uv) = (kind ≡ Uv) × (uv < 2 ^ 32)
+FitsTold board kind (OkOn on) = kind ≡ OnOrOff
+FitsTold board kind (OkList uv) = (kind ≡ UvOrNone) × IfSome uv (λ n. n < 2 ^ 32)
+FitsTold board kind (OkYes is) = kind ≡ YesOrNo
+FitsTold board kind (OkEvents list) = (kind ≡ TheEvents) × (length list ≤ 64) × All FitsEvent list
+FitsTold board kind (BadRange lo hi) = (lo < 2 ^ 32) × (hi < 2 ^ 32)
+FitsTold board kind NoValue = Unit {0}
+FitsTold board kind (Unbalanced enables) = enables ≡ 0
+FitsTold board kind (CountFull enables) = enables ≡ 65535
+FitsTold board kind (StillEnabled enables) = enables < 2 ^ 32
+FitsTold board kind (Taken handles) = handles < 2 ^ 32
+FitsTold board kind HandleOpen = Unit {0}
+FitsTold board kind (HandlesFull handles) = handles ≡ 64
+FitsTold board kind NoHandle = Unit {0}
+FitsTold board kind NotAllowed = Unit {0}
+FitsTold board kind (NoMode sum) = sum < 2 ^ 64
+FitsTold board kind NotListening = Unit {0}
+FitsTold board kind Suspended = Unit {0}
+FitsTold board kind NotSuspended = Unit {0}
+FitsTold board kind (Fault chip reg applied now) =
     (chip < 2 ^ 8) × (reg < 2 ^ 8) × (applied < 2 ^ 32) × All (FitsNow board) now
+
+-- an answer that the call may be given
+abbrev pub FitsAnswer : Board → Call → Answer → Type 0
+FitsAnswer board call answer = FitsTold board (told call) answer
 
 -- a write to a chip of the board
 abbrev pub FitsWrite : Board → Write → Type 0

@@ -4,4 +4,5 @@ pub mod Row
 pub mod CallText
 pub mod AnswerText
 pub mod Reading
+pub mod RowLine
 pub mod Fits

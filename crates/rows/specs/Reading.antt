@@ -46,11 +46,22 @@ pub record Spells (word : List ℕ) (call : Call) (line : List ℕ) : Type 0 whe
   pub naming : NamesBy call word
   pub spelled : line ≡ call_text (λ _. word) call
 
--- these words are those of the call, with this word for its rail
+-- what names a rail has no space, and there is none where no handle is opened
+abbrev pub LacksSpace : Call → List ℕ → Type 0
+LacksSpace (Open handle rail exclusive) word = All (λ byte. byte ≢ 32) word
+LacksSpace _ word = word ≡ []
+
+-- these words are those of the call, with this word, which may be empty, for its rail
 pub record SpellsWords (word : List ℕ) (call : Call) (words : List (List ℕ)) : Type 0 where
   pub is : IsCall call
-  pub naming : NamesBy call word
+  pub naming : LacksSpace call word
   pub spelled : words ≡ call_words (λ _. word) call
+
+-- the same of their line
+pub record SpellsLine (word : List ℕ) (call : Call) (line : List ℕ) : Type 0 where
+  pub is : IsCall call
+  pub naming : LacksSpace call word
+  pub spelled : line ≡ call_text (λ _. word) call
 
 -- these words are those of no call
 abbrev pub NoCall : List (List ℕ) → Type 0
@@ -95,3 +106,8 @@ trimmed_call call = call_at (λ rail. rail) call
 -- a line spells one call with one word: two readings differ in nothing but the rail, which the line doesn't tell
 abbrev pub OneSpelling : Type 0
 OneSpelling = (line w v : List ℕ) (c d : Call) → Spells w c line → Spells v d line → (w ≡ v) × (without_rail c ≡ without_rail d)
+
+-- the name of the rail that a call names has no such byte
+abbrev pub NameLacks : ℕ → (RailId → List ℕ) → Call → Type 0
+NameLacks byte name (Open handle rail exclusive) = All (λ b. b ≢ byte) (name rail)
+NameLacks byte name _ = Unit {0}

@@ -75,11 +75,19 @@ pub enum Call {
 
 impl Call {
     ghost use Rattle.std.specs.Prelude.{◌≡◌};
+    ghost use Rattle.rows.specs.Reading.{opens};
 
     /// The same call.
     pub fn copy(&self) -> Call
         ensures { result ≡ self.now }
     {
         *self
+    }
+
+    /// Whether it opens a handle.
+    pub(crate) fn opens(&self) -> bool
+        ensures { result ≡ opens self.now }
+    {
+        matches!(self, Call::Open { .. })
     }
 }

@@ -2,7 +2,7 @@ ghost use Rattle.std.specs.Prelude.{ℕ, ◌≡◌, ◌≢◌, List, [], ◌∷�
 ghost use Rattle.board.specs.declared.state.State.{State as TheState};
 ghost use Rattle.rows.specs.declared.call.Call.{Call as TheCall};
 ghost use Rattle.rows.specs.Names.{IsHandleName};
-ghost use Rattle.rows.specs.Reading.{NoCall, OpensAt, Spells, SpellsWords};
+ghost use Rattle.rows.specs.Reading.{NoCall, OpensAt, Spells, SpellsLine, SpellsWords};
 ghost use Rattle.rows.specs.Words.{state_text, IsAsciiWord};
 
 use crate::call::Call;
@@ -13,7 +13,7 @@ use board::{Handle, RailId, State};
 use std::str;
 
 /// The text of a word of which each byte is ASCII.
-fn text_of(word: &[u8]) -> Option<&str>
+pub(crate) fn text_of(word: &[u8]) -> Option<&str>
     ensures some { IfSome result (λ text. text.now ≡ word.now) }
     ensures none { IfNone result (¬ IsAsciiWord word.now) }
 {
@@ -111,9 +111,6 @@ fn middle_call<'a>(verb: &[u8], name: &[u8], operand: &'a [u8]) -> Option<(Call,
     let verb = text_of(verb)?;
     let exclusive = verb == "openx";
     if exclusive || verb == "open" {
-        if operand.is_empty() {
-            return None;
-        }
         let rail = RailId(0);
         let call = Call::Open { handle, rail, exclusive };
         return Some((call, operand));
@@ -137,11 +134,11 @@ fn long_call(verb: &[u8], name: &[u8], low: &[u8], high: &[u8]) -> Option<Call>
     }
 }
 
-/// The call of a call line, with rail 0 where a handle is opened, and the word that names the rail
-/// then; the word is empty for a call that names no rail.
-pub fn parse_call(line: &[u8]) -> Option<(Call, &[u8])>
-    ensures some { IfSome result (λ read. Spells read.1.now read.0 line.now × OpensAt 0 read.0) }
-    ensures none { IfNone result ((word : List ℕ) (call : TheCall) → ¬ Spells word call line.now) }
+/// The call of a line, with rail 0 where a handle is opened, and the word, which may be empty, that
+/// names the rail then.
+pub(crate) fn read_words(line: &[u8]) -> Option<(Call, &[u8])>
+    ensures some { IfSome result (λ read. SpellsLine read.1.now read.0 line.now × OpensAt 0 read.0) }
+    ensures none { IfNone result ((word : List ℕ) (call : TheCall) → ¬ SpellsLine word call line.now) }
 {
     let Some((verb, rest)) = split_first(line, b' ') else {
         let call = bare_call(line)?;
@@ -156,6 +153,23 @@ pub fn parse_call(line: &[u8]) -> Option<(Call, &[u8])>
         Some((low, high)) => {
             let call = long_call(verb, name, low, high)?;
             Some((call, b""))
+        }
+    }
+}
+
+/// The call of a call line, with rail 0 where a handle is opened, and the word that names the rail
+/// then; the word is empty for a call that names no rail.
+pub fn parse_call(line: &[u8]) -> Option<(Call, &[u8])>
+    ensures some { IfSome result (λ read. Spells read.1.now read.0 line.now × OpensAt 0 read.0) }
+    ensures none { IfNone result ((word : List ℕ) (call : TheCall) → ¬ Spells word call line.now) }
+{
+    match read_words(line) {
+        None => None,
+        Some((call, word)) => {
+            if call.opens() && word.is_empty() {
+                return None;
+            }
+            Some((call, word))
         }
     }
 }

@@ -10,6 +10,7 @@ mod handles;
 mod numbers;
 pub mod reading;
 mod row;
+mod row_line;
 mod split;
 mod words;
 

@@ -1,29 +1,12 @@
-use Rattle.std.proofs.Common.{ℕ, ◌≡◌, List, [], ◌∷◌, ◌++◌, refl, ap, ◌∙◌, arith}
-use Rattle.std.specs.Prelude.{IfNone}
-use Rattle.rows.specs.declared.call.Call.{Call}
-use Rattle.rows.specs.Reading.{NoCall, Spells}
-use Rattle.rows.specs.Words.{spaced}
-use Rattle.rows.proofs.CallWords.{no_line, no_long_line}
-use Rattle.rows.proofs.Options.{none_then}
+use Rattle.std.proofs.Common.{◌≡◌, length, true, rules}
+use Rattle.std.proofs.lemmas.List.{nil_from_length}
+use Rattle.rows.specs.Reading.{opens}
+use Rattle.rows.proofs.Spellings.{not_empty}
 use Rattle.rows.proofs.call_reading.parse_call.Goals as goal
 
-pub returns-in_err-call-clause-none : goal.returns-in_err-call-clause-none
-returns-in_err-call-clause-none c =
-    rw c.from_residual.ensures (no_line c.args.line.now (c.args.line.now ∷ []) refl (c.in_default.ensures.none, tt) (omega arith) c.in_err-call.ensures.none)
-
-pub returns-in_err-call-2-clause-none : goal.returns-in_err-call-2-clause-none
-returns-in_err-call-2-clause-none c =
-    rw c.from_residual-in_err-call-2.ensures (no_line c.args.line.now (c.in-Some.verb.now ∷ c.in-Some.rest.now ∷ []) c.in-Some.ensures.parts (c.in-Some.ensures.first, (c.in_default-split_first.ensures.none, tt)) (omega arith) c.in_err-call-2.ensures.none)
-
-pub returns-in_err-call-in-Some-split_first-2-clause-none : goal.returns-in_err-call-in-Some-split_first-2-clause-none
-returns-in_err-call-in-Some-split_first-2-clause-none c =
-    let name = c.in-Some-split_first.name.now in
-    let inner = ap (λ rest. name ++ 32 ∷ rest) c.in-Some-split_first-2.ensures.parts in
-    let whole = ap (λ rest. c.in-Some.verb.now ++ 32 ∷ rest) (c.in-Some-split_first.ensures.parts ∙ inner) in
-    rw c.from_residual-in_err-call-in-Some-split_first-2.ensures (no_long_line c.args.line.now (c.in-Some.verb.now ∷ name ∷ c.in-Some-split_first-2.low.now ∷ c.in-Some-split_first-2.high.now ∷ []) (c.in-Some.ensures.parts ∙ whole) (c.in-Some.ensures.first, (c.in-Some-split_first.ensures.first, (c.in-Some-split_first-2.ensures.first, tt))) refl c.in_err-call-in-Some-split_first-2.ensures.none)
-
-pub returns-in-None-clause-none : goal.returns-in-None-clause-none
-returns-in-None-clause-none c =
-    let words = c.in-Some.verb.now ∷ c.in-Some-split_first.name.now ∷ c.in-Some-split_first.rest.now ∷ [] in
-    let whole = ap (λ rest. c.in-Some.verb.now ++ 32 ∷ rest) c.in-Some-split_first.ensures.parts in
-    none_then c.middle_call.result _ _ c.middle_call.ensures.none (λ (none : NoCall words). no_line c.args.line.now words (c.in-Some.ensures.parts ∙ whole) (c.in-Some.ensures.first, (c.in-Some-split_first.ensures.first, (c.in-None.ensures.none, tt))) (omega arith) none)
+pub returns-then-is_empty-clause-none : goal.returns-then-is_empty-clause-none
+returns-then-is_empty-clause-none c =
+    let none : length c.in-Some.word.now ≡ 0 = search rules in
+    let empty = nil_from_length c.in-Some.word.now none in
+    let opening : opens c.in-Some.call ≡ true = cc in
+    not_empty c.args.line.now c.in-Some.word.now c.in-Some.call (c.in-Some.ensures.some.0) empty opening
