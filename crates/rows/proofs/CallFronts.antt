@@ -26,7 +26,7 @@ pub one_other : (byte : ℕ) → byte ≢ 32 → one byte ≡ 0
 one_other byte other = grind (arith, nat_tests)
 
 pub spaces-append : (xs ys : List ℕ) → spaces (xs ++ ys) ≡ spaces xs + spaces ys
-spaces-append [] ys = refl
+spaces-append [] ys = omega arith
 spaces-append (x ∷ xs) ys = omega (arith, spaces-append xs ys)
 
 pub spaces-lacks : (word : List ℕ) → Lacks 32 word → spaces word ≡ 0

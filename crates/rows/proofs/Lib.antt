@@ -1,4 +1,5 @@
 pub mod Appended
+pub mod BoardCalls
 pub mod CallFronts
 pub mod CallWords
 pub mod Cuts
@@ -7,6 +8,7 @@ pub mod Numerals
 pub mod OneSpelling
 pub mod Options
 pub mod Prefixes
+pub mod RowHeads
 pub mod Separators
 pub mod Spaces
 pub mod Spellings

@@ -6,3 +6,4 @@ pub mod AnswerText
 pub mod Reading
 pub mod RowLine
 pub mod Fits
+pub mod AnswerParts

@@ -2,6 +2,7 @@
 #![tactic(auto)]
 
 mod answer;
+mod answer_reading;
 mod answer_text;
 mod call;
 mod call_reading;

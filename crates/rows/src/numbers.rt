@@ -26,6 +26,42 @@ pub fn parse_number(word: &[u8]) -> Option<u32>
     text.parse::<u32>().ok()
 }
 
+/// The same of a number of 64 bits.
+pub(crate) fn parse_wide(word: &[u8]) -> Option<u64>
+    ensures some { IfSome result (λ n. word.now ≡ decimal n) }
+    ensures none { IfNone result ((n : ℕ) → n < 2 ^ 64 → word.now ≢ decimal n) }
+{
+    if !is_plain(word) {
+        return None;
+    }
+    let text = str::from_utf8(word).ok()?;
+    text.parse::<u64>().ok()
+}
+
+/// The same of a number of 16 bits.
+pub(crate) fn parse_short(word: &[u8]) -> Option<u16>
+    ensures some { IfSome result (λ n. word.now ≡ decimal n) }
+    ensures none { IfNone result ((n : ℕ) → n < 2 ^ 16 → word.now ≢ decimal n) }
+{
+    let n = parse_number(word)?;
+    if n > 65535 {
+        return None;
+    }
+    Some(n as u16)
+}
+
+/// The same of a number of 8 bits.
+pub(crate) fn parse_byte(word: &[u8]) -> Option<u8>
+    ensures some { IfSome result (λ n. word.now ≡ decimal n) }
+    ensures none { IfNone result ((n : ℕ) → n < 2 ^ 8 → word.now ≢ decimal n) }
+{
+    let n = parse_number(word)?;
+    if n > 255 {
+        return None;
+    }
+    Some(n as u8)
+}
+
 /// The number of this hexadecimal digit; a letter is a small one.
 fn parse_hex_digit(byte: u8) -> Option<u8>
     ensures some { IfSome result (λ n. (n < 16) × (byte ≡ hex_digit n)) }
