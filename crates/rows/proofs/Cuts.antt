@@ -1,12 +1,12 @@
 -- Words between spaces, told again from the line that they make.
-use Rattle.std.proofs.Common.{ℕ, ◌≡◌, ◌≢◌, ◌+◌, ◌%◌, ◌^◌, ◌<◌, ◌≤◌, List, [], ◌∷◌, ◌++◌, All, length, true, nat_lt, decimal, refl, sym, ap, ◌∙◌, arith}
+use Rattle.std.proofs.Common.{ℕ, ◌≡◌, ◌≢◌, ◌+◌, ◌%◌, ◌/◌, ◌^◌, ◌<◌, ◌≤◌, List, [], ◌∷◌, ◌++◌, All, length, true, nat_lt, decimal, refl, sym, ap, ◌∙◌, arith}
 use Rattle.std.specs.List.{list_all}
 use Rattle.std.proofs.lemmas.Bool.Decides.{nat_tests}
 use Rattle.std.proofs.lemmas.Fmt.{decimal_by_steps}
-use Rattle.std.proofs.lemmas.List.Elements.{All-nil, All-cons, All-push, All-weaker}
+use Rattle.std.proofs.lemmas.List.Elements.{All-nil, All-append, All-cons, All-push, All-weaker}
 use Rattle.std.proofs.lemmas.List.Sums.{AllPass-from_list_all}
 use Rattle.rows.specs.Names.{is_letter, is_name_byte, IsHandleName}
-use Rattle.rows.specs.Words.{spaced}
+use Rattle.rows.specs.Words.{spaced, hex_digit, hex_text}
 use Rattle.rows.proofs.Separators.{Lacks, not_split, split_once}
 
 -- each byte stands above the space and the newline
@@ -74,3 +74,19 @@ spaced_within (w ∷ w' ∷ ws) (v ∷ v' ∷ vs) lack lack' some some' few same
     let cut = split_once 32 w (spaced (w' ∷ ws)) v (spaced (v' ∷ vs)) lack.0 lack'.0 same in
     let rest : w' ∷ ws ≡ v' ∷ vs = spaced_within (w' ∷ ws) (v' ∷ vs) lack.1 lack'.1 (omega arith) (omega arith) (omega arith) cut.1 in
     ap (λ x. x ∷ w' ∷ ws) cut.0 ∙ ap (λ x. v ∷ x) rest
+
+-- a line lacks what its words lack
+pub Lacks-spaced : (sep : ℕ) → sep ≢ 32 → (words : List (List ℕ)) → AllLack sep words → Lacks sep (spaced words)
+Lacks-spaced sep other [] lack = All-nil (λ b. b ≢ sep)
+Lacks-spaced sep other (w ∷ []) lack = lack.0
+Lacks-spaced sep other (w ∷ v ∷ words) lack =
+    All-append (λ b. b ≢ sep) w (32 ∷ spaced (v ∷ words)) lack.0 (All-cons (λ b. b ≢ sep) 32 (spaced (v ∷ words)) (λ same. other (sym same)) (Lacks-spaced sep other (v ∷ words) lack.1))
+
+hex_digit_above : (n : ℕ) → 32 < hex_digit n
+hex_digit_above n = grind (arith, nat_tests)
+
+pub Dense-hex_text : (n : ℕ) → Dense (hex_text n)
+Dense-hex_text n =
+    let low = All-cons (λ b. 32 < b) (hex_digit (n % 16)) [] (hex_digit_above (n % 16)) (All-nil (λ b. 32 < b)) in
+    let both = All-cons (λ b. 32 < b) (hex_digit (n / 16)) (hex_digit (n % 16) ∷ []) (hex_digit_above (n / 16)) low in
+    All-cons (λ b. 32 < b) 48 (120 ∷ hex_digit (n / 16) ∷ hex_digit (n % 16) ∷ []) (omega arith) (All-cons (λ b. 32 < b) 120 (hex_digit (n / 16) ∷ hex_digit (n % 16) ∷ []) (omega arith) both)

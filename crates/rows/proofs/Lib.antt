@@ -12,4 +12,6 @@ pub mod RowHeads
 pub mod Separators
 pub mod Spaces
 pub mod Spellings
+pub mod Walks
 pub mod WorkedTexts
+pub mod WriteLines

@@ -92,7 +92,7 @@ FitsAnswer board call answer = FitsTold board (told call) answer
 
 -- a write to a chip of the board
 abbrev pub FitsWrite : Board → Write → Type 0
-FitsWrite board write = (write.chip < board.chips) × (write.reg < 2 ^ 8) × (write.mask < 2 ^ 8) × (write.bits < 2 ^ 8)
+FitsWrite board write = (write.chip < board.chips) × (write.chip < 2 ^ 8) × (write.reg < 2 ^ 8) × (write.mask < 2 ^ 8) × (write.bits < 2 ^ 8)
 
 -- a row of this board
 pub record Fits (board : Board) (row : Row) : Type 0 where

@@ -11,11 +11,14 @@ mod handles;
 mod numbers;
 pub mod reading;
 mod row;
+mod row_fault;
 mod row_line;
 mod split;
 mod words;
+mod write_reading;
 
 pub use answer::Answer;
 pub use call::Call;
 pub use row::Row;
+pub use row_fault::RowFault;
 pub use words::{hex_text, mode_text, on_text};
