@@ -7,6 +7,7 @@ pub mod Names
 pub mod Numerals
 pub mod OneSpelling
 pub mod Options
+pub mod Parts
 pub mod Prefixes
 pub mod RowHeads
 pub mod Separators

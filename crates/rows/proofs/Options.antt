@@ -16,3 +16,8 @@ none_part (Some x) P Q h = tt
 pub none_then : {X : Type 0} (r : Option X) (P Q : Type 0) → IfNone r P → (P → Q) → IfNone r Q
 none_then None P Q h f = f h
 none_then (Some x) P Q h f = tt
+
+-- what follows of a value
+pub some_then : {X : Type 0} (r : Option X) (P Q : X → Type 0) → IfSome r P → ((x : X) → P x → Q x) → IfSome r Q
+some_then None P Q h f = tt
+some_then (Some x) P Q h f = f x h

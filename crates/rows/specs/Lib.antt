@@ -7,3 +7,4 @@ pub mod Reading
 pub mod RowLine
 pub mod Fits
 pub mod AnswerParts
+pub mod Tails

@@ -7,6 +7,7 @@ mod answer_text;
 mod call;
 mod call_reading;
 mod call_text;
+mod event_reading;
 mod handles;
 mod numbers;
 pub mod reading;
