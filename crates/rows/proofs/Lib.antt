@@ -3,6 +3,8 @@ pub mod BoardCalls
 pub mod CallFronts
 pub mod CallWords
 pub mod Cuts
+pub mod EventLines
+pub mod FaultLines
 pub mod Names
 pub mod Numerals
 pub mod OneSpelling

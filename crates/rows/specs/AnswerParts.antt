@@ -1,9 +1,11 @@
 -- The first word of an answer, and what stands behind it.
-use Rattle.std.specs.Prelude.{ℕ, ◌≡◌, List, [], ◌∷◌, ◌++◌, codes, decimal, flat_map, length}
+use Rattle.std.specs.Prelude.{ℕ, ◌≡◌, List, [], ◌∷◌, ◌++◌, codes, decimal, flat_map, length, Option, None, Some, Result, Ok, Err}
 use Rattle.board.specs.declared.board.Board.{Board}
 use Rattle.board.specs.declared.rail_id.RailId.{RailId}
 use Rattle.rows.specs.declared.answer.Answer.{Answer}
-use Rattle.rows.specs.declared.answer.Answer.TheVariants.{Ok, OkTime, OkSet, OkMode, OkUv, OkOn, OkList, OkYes, OkEvents, BadRange, NoValue, Unbalanced, CountFull, StillEnabled, Taken, HandleOpen, HandlesFull, NoHandle, NotAllowed, NoMode, NotListening, Suspended, NotSuspended, Fault}
+use Rattle.rows.specs.declared.answer.Answer.TheVariants.{Ok as OkAnswer, OkTime, OkSet, OkMode, OkUv, OkOn, OkList, OkYes, OkEvents, BadRange, NoValue, Unbalanced, CountFull, StillEnabled, Taken, HandleOpen, HandlesFull, NoHandle, NotAllowed, NoMode, NotListening, Suspended, NotSuspended, Fault}
+use Rattle.rows.specs.declared.row_fault.RowFault.{RowFault}
+use Rattle.rows.specs.declared.row_fault.RowFault.TheVariants.{NotARow}
 use Rattle.rows.specs.AnswerText.{next_event_text, now_text, listed_text}
 use Rattle.rows.specs.Fits.{Told, FitsTold}
 use Rattle.rows.specs.Row.{rail_name}
@@ -11,7 +13,7 @@ use Rattle.rows.specs.Words.{spaced, hex_text, mode_text, on_text, yes_text}
 
 -- the first word, and what stands behind it if anything does, by the names of the rails
 abbrev pub answer_parts : (RailId → List ℕ) → Answer → List (List ℕ)
-answer_parts name Ok = codes "ok" ∷ []
+answer_parts name OkAnswer = codes "ok" ∷ []
 answer_parts name (OkTime delay) = codes "ok" ∷ decimal delay ∷ []
 answer_parts name (OkSet uv delay) = codes "ok" ∷ spaced (decimal uv ∷ decimal delay ∷ []) ∷ []
 answer_parts name (OkMode mode) = codes "ok" ∷ mode_text mode ∷ []
@@ -45,3 +47,8 @@ pub record IsAnswer (board : Board) (kind : Told) (answer : Answer) (parts : Lis
 -- the parts are those of no answer to such a call
 abbrev pub NoAnswer : Told → List (List ℕ) → Type 0
 NoAnswer kind parts = (board : Board) (answer : Answer) → ¬ IsAnswer board kind answer parts
+
+-- an answer, or that there is no row
+abbrev pub or_no_row : Option Answer → Result Answer RowFault
+or_no_row None = Err NotARow
+or_no_row (Some answer) = Ok answer

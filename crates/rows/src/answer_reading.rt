@@ -1,17 +1,26 @@
-ghost use Rattle.std.specs.Prelude.{ℕ, Bool, ◌≡◌, ◌≢◌, ◌^◌, ◌<◌, Option as TheOption, IsTrue, ◌↔◌, [], ◌∷◌, codes, decimal, IfSome, IfNone};
+ghost use Rattle.std.specs.Prelude.{ℕ, Bool, ◌≡◌, ◌≢◌, ◌^◌, ◌<◌, Option as TheOption, IsTrue, ◌↔◌, [], ◌∷◌, codes, decimal, IfSome, IfNone, IfOk, IfErr};
 ghost use Rattle.board.specs.declared.board.Board.{Board as TheBoard};
+ghost use Rattle.board.specs.Valid.{IsValid};
 ghost use Rattle.load_modes.specs.declared.mode.Mode.{Mode as TheMode};
-ghost use Rattle.rows.specs.AnswerParts.{IsAnswer, NoAnswer};
-ghost use Rattle.rows.specs.AnswerText.{listed_text};
-ghost use Rattle.rows.specs.Fits.{told, Nothing, TheEvents};
+ghost use Rattle.rows.specs.declared.answer.Answer.{Answer as TheAnswer};
+ghost use Rattle.rows.specs.declared.row_fault.RowFault.TheVariants.{NotARow};
+ghost use Rattle.rows.specs.AnswerParts.{or_no_row, IsAnswer, NoAnswer};
+ghost use Rattle.rows.specs.AnswerText.{answer_text, listed_text};
+ghost use Rattle.rows.specs.Fits.{told, FitsTold, Nothing, TheEvents};
+ghost use Rattle.rows.specs.Row.{rail_name};
 ghost use Rattle.rows.specs.Words.{spaced, mode_text, on_text, yes_text};
 
 use crate::answer::Answer;
 use crate::call::Call;
 use crate::call_reading::text_of;
+use crate::event_reading::read_events;
+use crate::fault_reading::read_fault;
 use crate::numbers::{parse_number, parse_number_pair, parse_wide};
+use crate::row_fault::RowFault;
 use crate::split::split_first;
+use board::Board;
 use load_modes::Mode;
+use std::alloc::Global;
 
 /// The mode of this word.
 fn parse_mode(word: &[u8]) -> Option<Mode>
@@ -195,5 +204,68 @@ fn numbered_refusal(call: &Call, verb: &str, words: &[u8]) -> Option<Answer>
             Some(Answer::NoMode { sum })
         }
         _ => None,
+    }
+}
+
+/// What is read, or that it is no row.
+fn found(answer: Option<Answer>) -> Result<Answer, RowFault>
+    ensures { result ≡ or_no_row answer }
+{
+    match answer {
+        Some(answer) => Ok(answer),
+        None => Err(RowFault::NotARow),
+    }
+}
+
+/// The answer to a call that was done, by what stands behind `ok`.
+fn ok_answer(alloc: Global, call: &Call, words: &[u8]) -> Result<Answer, RowFault>
+    ensures ok { IfOk result (λ answer. (board : TheBoard) → IsAnswer board (told call.now) answer (codes "ok" ∷ words.now ∷ [])) }
+    ensures none { IfErr result (λ fault. fault ≡ NotARow → NoAnswer (told call.now) (codes "ok" ∷ words.now ∷ [])) }
+{
+    match call {
+        Call::Events { .. } => match read_events(alloc, words) {
+            Ok(list) => Ok(Answer::OkEvents { list }),
+            Err(fault) => Err(fault),
+        },
+        _ => found(done_answer(call, words)),
+    }
+}
+
+/// The answer to a call, by its first word and what stands behind it.
+fn worded_answer(
+    alloc: Global,
+    board: &Board,
+    call: &Call,
+    word: &[u8],
+    words: &[u8],
+) -> Result<Answer, RowFault>
+    requires { IsValid board.now }
+    ensures ok { IfOk result (λ answer. IsAnswer board.now (told call.now) answer (word.now ∷ words.now ∷ [])) }
+    ensures none { IfErr result (λ fault. fault ≡ NotARow → (answer : TheAnswer) → ¬ IsAnswer board.now (told call.now) answer (word.now ∷ words.now ∷ [])) }
+{
+    let Some(verb) = text_of(word) else {
+        return Err(RowFault::NotARow);
+    };
+    match verb {
+        "ok" => ok_answer(alloc, call, words),
+        "fault" => read_fault(alloc, board, words),
+        _ => found(numbered_refusal(call, verb, words)),
+    }
+}
+
+/// The answer to a call.
+pub(crate) fn read_answer(
+    alloc: Global,
+    board: &Board,
+    call: &Call,
+    text: &[u8],
+) -> Result<Answer, RowFault>
+    requires { IsValid board.now }
+    ensures ok { IfOk result (λ answer. FitsTold board.now (told call.now) answer × (text.now ≡ answer_text (rail_name board.now) answer)) }
+    ensures none { IfErr result (λ fault. fault ≡ NotARow → (answer : TheAnswer) → FitsTold board.now (told call.now) answer → text.now ≢ answer_text (rail_name board.now) answer) }
+{
+    match split_first(text, b' ') {
+        None => found(bare_answer(call, text)),
+        Some((word, words)) => worded_answer(alloc, board, call, word, words),
     }
 }

@@ -100,10 +100,15 @@ pub(crate) fn read_events(alloc: Global, words: &[u8]) -> Result<Items<Event>, R
     let Some(count) = parse_number(count) else {
         return Err(RowFault::NotARow);
     };
-    let list = read_list(alloc, text)?;
-    if list.len() == count as usize && count <= 64 {
-        Ok(list)
-    } else {
-        Err(RowFault::NotARow)
+    if count > 64 {
+        return Err(RowFault::NotARow);
     }
+    let list = match read_list(alloc, text) {
+        Ok(list) => list,
+        Err(fault) => return Err(fault),
+    };
+    if list.len() != count as usize {
+        return Err(RowFault::NotARow);
+    }
+    Ok(list)
 }

@@ -16,7 +16,7 @@ use crate::split::{after_prefix, split_first};
 use board::{Board, RailId};
 
 /// The rail of this name.
-fn rail_named(board: &Board, word: &[u8]) -> Option<RailId>
+pub(crate) fn rail_named(board: &Board, word: &[u8]) -> Option<RailId>
     requires { length board.now.rails ≤ 65535 }
     ensures some { IfSome result (λ id. (id.0 < length board.now.rails) × (rail_name board.now id ≡ word.now)) }
     ensures none { IfNone result ((id : TheRailId) → id.0 < length board.now.rails → rail_name board.now id ≢ word.now) }
@@ -130,6 +130,7 @@ fn split_answer(text: &[u8]) -> Option<(&[u8], &[u8])>
 }
 
 /// A row without its writes, whose answer isn't read yet.
+#[derive(Clone, Copy)]
 pub(crate) struct Head<'a> {
     pub(crate) worker: u16,
     pub(crate) number: u32,
