@@ -1,5 +1,5 @@
 -- What stands behind the word of a fault, told in one way.
-use Rattle.std.proofs.Common.{ℕ, ◌≡◌, ◌≢◌, ◌^◌, ◌<◌, List, [], ◌∷◌, ◌++◌, codes, decimal, drop, length, All, flat_map, refl, sym, ap, ◌∙◌, arith, append_assoc, ◌⊎◌, inl, inr}
+use Rattle.std.proofs.Common.{ℕ, ◌≡◌, ◌≢◌, ◌^◌, ◌<◌, List, [], ◌∷◌, ◌++◌, codes, decimal, drop, get_or, length, All, flat_map, refl, sym, ap, ◌∙◌, arith, append_assoc, ◌⊎◌, inl, inr}
 use Rattle.board.specs.declared.board.Board.{Board}
 use Rattle.board.specs.declared.rail_id.RailId.{RailId}
 use Rattle.board.specs.Valid.{HasNames}
@@ -65,29 +65,29 @@ fault_text_is name chip reg applied now =
 
 -- no other answer begins with that word
 pub fault_of : (board : Board) (kind : Told) (answer : Answer) (words : List ℕ) → IsAnswer board kind answer (codes "fault" ∷ words ∷ []) → IsFault board words
-fault_of board kind Ok words told = absurd (let e = told.spelled in cc)
-fault_of board kind (OkTime delay) words told = absurd (let e = told.spelled in cc)
-fault_of board kind (OkSet uv delay) words told = absurd (let e = told.spelled in cc)
-fault_of board kind (OkMode mode) words told = absurd (let e = told.spelled in cc)
-fault_of board kind (OkUv uv) words told = absurd (let e = told.spelled in cc)
-fault_of board kind (OkOn on) words told = absurd (let e = told.spelled in cc)
-fault_of board kind (OkList uv) words told = absurd (let e = told.spelled in cc)
-fault_of board kind (OkYes is) words told = absurd (let e = told.spelled in cc)
-fault_of board kind (OkEvents list) words told = absurd (let e = told.spelled in cc)
-fault_of board kind (BadRange lo hi) words told = absurd (let e = told.spelled in cc)
-fault_of board kind NoValue words told = absurd (let e = told.spelled in cc)
-fault_of board kind (Unbalanced enables) words told = absurd (let e = told.spelled in cc)
-fault_of board kind (CountFull enables) words told = absurd (let e = told.spelled in cc)
-fault_of board kind (StillEnabled enables) words told = absurd (let e = told.spelled in cc)
-fault_of board kind (Taken handles) words told = absurd (let e = told.spelled in cc)
-fault_of board kind HandleOpen words told = absurd (let e = told.spelled in cc)
-fault_of board kind (HandlesFull handles) words told = absurd (let e = told.spelled in cc)
-fault_of board kind NoHandle words told = absurd (let e = told.spelled in cc)
-fault_of board kind NotAllowed words told = absurd (let e = told.spelled in cc)
-fault_of board kind (NoMode sum) words told = absurd (let e = told.spelled in cc)
-fault_of board kind NotListening words told = absurd (let e = told.spelled in cc)
-fault_of board kind Suspended words told = absurd (let e = told.spelled in cc)
-fault_of board kind NotSuspended words told = absurd (let e = told.spelled in cc)
+fault_of board kind Ok words told = absurd (omega (arith, ap (λ ws. get_or (get_or ws 0 []) 0 0) told.spelled))
+fault_of board kind (OkTime delay) words told = absurd (omega (arith, ap (λ ws. get_or (get_or ws 0 []) 0 0) told.spelled))
+fault_of board kind (OkSet uv delay) words told = absurd (omega (arith, ap (λ ws. get_or (get_or ws 0 []) 0 0) told.spelled))
+fault_of board kind (OkMode mode) words told = absurd (omega (arith, ap (λ ws. get_or (get_or ws 0 []) 0 0) told.spelled))
+fault_of board kind (OkUv uv) words told = absurd (omega (arith, ap (λ ws. get_or (get_or ws 0 []) 0 0) told.spelled))
+fault_of board kind (OkOn on) words told = absurd (omega (arith, ap (λ ws. get_or (get_or ws 0 []) 0 0) told.spelled))
+fault_of board kind (OkList uv) words told = absurd (omega (arith, ap (λ ws. get_or (get_or ws 0 []) 0 0) told.spelled))
+fault_of board kind (OkYes is) words told = absurd (omega (arith, ap (λ ws. get_or (get_or ws 0 []) 0 0) told.spelled))
+fault_of board kind (OkEvents list) words told = absurd (omega (arith, ap (λ ws. get_or (get_or ws 0 []) 0 0) told.spelled))
+fault_of board kind (BadRange lo hi) words told = absurd (omega (arith, ap (λ ws. get_or (get_or ws 0 []) 0 0) told.spelled))
+fault_of board kind NoValue words told = absurd (omega (arith, ap (λ ws. get_or (get_or ws 0 []) 0 0) told.spelled))
+fault_of board kind (Unbalanced enables) words told = absurd (omega (arith, ap (λ ws. get_or (get_or ws 0 []) 0 0) told.spelled))
+fault_of board kind (CountFull enables) words told = absurd (omega (arith, ap (λ ws. get_or (get_or ws 0 []) 0 0) told.spelled))
+fault_of board kind (StillEnabled enables) words told = absurd (omega (arith, ap (λ ws. get_or (get_or ws 0 []) 0 0) told.spelled))
+fault_of board kind (Taken handles) words told = absurd (omega (arith, ap (λ ws. get_or (get_or ws 0 []) 0 0) told.spelled))
+fault_of board kind HandleOpen words told = absurd (omega (arith, ap (λ ws. get_or (get_or ws 0 []) 0 0) told.spelled))
+fault_of board kind (HandlesFull handles) words told = absurd (omega (arith, ap (λ ws. get_or (get_or ws 0 []) 0 0) told.spelled))
+fault_of board kind NoHandle words told = absurd (omega (arith, ap (λ ws. get_or (get_or ws 0 []) 0 0) told.spelled))
+fault_of board kind NotAllowed words told = absurd (omega (arith, ap (λ ws. get_or (get_or ws 0 []) 0 0) told.spelled))
+fault_of board kind (NoMode sum) words told = absurd (omega (arith, ap (λ ws. get_or (get_or ws 0 []) 0 0) told.spelled))
+fault_of board kind NotListening words told = absurd (omega (arith, ap (λ ws. get_or (get_or ws 0 []) 0 0) told.spelled))
+fault_of board kind Suspended words told = absurd (omega (arith, ap (λ ws. get_or (get_or ws 0 []) 0 0) told.spelled))
+fault_of board kind NotSuspended words told = absurd (omega (arith, ap (λ ws. get_or (get_or ws 0 []) 0 0) told.spelled))
 fault_of board kind (Fault chip reg applied now) words told = record {
   chip = chip;
   reg = reg;

@@ -12,6 +12,7 @@ pub mod Options
 pub mod Parts
 pub mod Prefixes
 pub mod RowHeads
+pub mod RowLines
 pub mod Separators
 pub mod Spaces
 pub mod Spellings

@@ -8,7 +8,7 @@ use Rattle.board.specs.declared.event.Event.{Event}
 use Rattle.board.specs.declared.event.Event.TheVariants.{PreVoltageChange, VoltageChange, AbortVoltageChange, Enable, PreDisable, Disable, AbortDisable}
 use Rattle.rows.specs.declared.answer.Answer.{Answer}
 use Rattle.rows.specs.declared.answer.Answer.TheVariants.{Ok, OkTime, OkSet, OkMode, OkUv, OkOn, OkList, OkYes, OkEvents, BadRange, NoValue, Unbalanced, CountFull, StillEnabled, Taken, HandleOpen, HandlesFull, NoHandle, NotAllowed, NoMode, NotListening, Suspended, NotSuspended, Fault}
-use Rattle.rows.specs.AnswerParts.{answer_parts, IsAnswer, NoAnswer}
+use Rattle.rows.specs.AnswerParts.{answer_parts, IsAnswer}
 use Rattle.rows.specs.AnswerText.{answer_text, event_text}
 use Rattle.rows.specs.Fits.{FitsEvent, FitsTold, Told}
 use Rattle.rows.specs.Row.{rail_name}
@@ -112,9 +112,9 @@ event_spaced Disable = refl
 event_spaced AbortDisable = refl
 
 -- what is no answer by its parts is none by its line
-pub no_answer : (board : Board) (kind : Told) (text : List ℕ) (parts : List (List ℕ)) → text ≡ spaced parts → AreParts parts → NoAnswer kind parts → (answer : Answer) → FitsTold board kind answer → text ≢ answer_text (rail_name board) answer
+pub no_answer : (board : Board) (kind : Told) (text : List ℕ) (parts : List (List ℕ)) → text ≡ spaced parts → AreParts parts → ((answer : Answer) → ¬ IsAnswer board kind answer parts) → (answer : Answer) → FitsTold board kind answer → text ≢ answer_text (rail_name board) answer
 no_answer board kind text parts split is none answer fits same =
-    none board answer (record { is = fits; spelled = parts_same parts (answer_parts (rail_name board) answer) is (answer_is_parts (rail_name board) answer) (sym split ∙ same ∙ answer_spaced (rail_name board) answer) })
+    none answer (record { is = fits; spelled = parts_same parts (answer_parts (rail_name board) answer) is (answer_is_parts (rail_name board) answer) (sym split ∙ same ∙ answer_spaced (rail_name board) answer) })
 
 pub an_answer : (board : Board) (kind : Told) (text : List ℕ) (parts : List (List ℕ)) (answer : Answer) → text ≡ spaced parts → IsAnswer board kind answer parts → FitsTold board kind answer × (text ≡ answer_text (rail_name board) answer)
 an_answer board kind text parts answer split is = (is.is, split ∙ ap spaced is.spelled ∙ sym (answer_spaced (rail_name board) answer))
