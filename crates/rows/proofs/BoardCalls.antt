@@ -1,5 +1,5 @@
 -- The call lines of a board.
-use Rattle.std.proofs.Common.{ℕ, ◌≡◌, ◌≢◌, ◌^◌, ◌<◌, ◌≤◌, List, [], ◌∷◌, length, Bool, true, false, codes, get_or, Option, None, Some, refl, sym, ap, ◌∙◌, subst, arith, ◌⊎◌, ⊎_elim}
+use Rattle.std.proofs.Common.{ℕ, ◌≡◌, ◌≢◌, ◌<◌, ◌≤◌, List, [], length, Bool, false, get_or, Option, None, Some, refl, sym, ap, ◌∙◌, subst, arith, ⊎_elim}
 use Rattle.std.specs.Prelude.{All, IfSome, slice_get}
 use Rattle.std.proofs.lemmas.Option.{slice_get_cases}
 use Rattle.std.proofs.lemmas.List.Elements.{All-nil, All-weaker}
@@ -11,9 +11,8 @@ use Rattle.board.specs.Valid.{HasNames, IsPrinted}
 use Rattle.rows.specs.declared.call.Call.{Call}
 use Rattle.rows.specs.declared.call.Call.TheVariants.{Open, Close, Enable, Disable, Set, Load, Get, IsOn, ModeOf, ListSel, Supported, Listen, Events, Suspend, Resume, ReleaseBoot}
 use Rattle.rows.specs.CallText.{call_text}
-use Rattle.rows.specs.Names.{IsHandleName}
-use Rattle.rows.specs.Reading.{IsCall, LacksSpace, NameLacks, opens, SpellsLine, without_rail}
-use Rattle.rows.specs.Row.{name_of, rail_name, NamesRail}
+use Rattle.rows.specs.Reading.{NameLacks, opens, SpellsLine}
+use Rattle.rows.specs.Row.{name_of, rail_name}
 use Rattle.rows.specs.RowLine.{IsCallOn}
 use Rattle.rows.proofs.OneSpelling.{one_line}
 use Rattle.rows.proofs.Separators.{Lacks}

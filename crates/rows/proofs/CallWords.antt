@@ -1,13 +1,12 @@
 -- The words of a call line, and the call that they are.
-use Rattle.std.proofs.Common.{ℕ, ◌≡◌, ◌≢◌, ◌^◌, ◌<◌, ◌≤◌, List, [], ◌∷◌, length, true, false, Bool, nat_lt, codes, decimal, refl, cond, sym, ap, ◌∙◌, arith}
+use Rattle.std.proofs.Common.{ℕ, ◌≡◌, ◌^◌, ◌<◌, ◌≤◌, List, length, true, false, Bool, nat_lt, codes, decimal, refl, cond, sym, ap, ◌∙◌, arith}
 use Rattle.std.specs.List.{list_all}
-use Rattle.std.proofs.lemmas.List.Elements.{All-nil}
 use Rattle.board.specs.declared.rail_id.RailId.{RailId}
 use Rattle.board.specs.declared.state.State.{State}
 use Rattle.board.specs.declared.state.State.TheVariants.{Standby, Mem, Disk}
 use Rattle.rows.specs.declared.call.Call.{Call}
 use Rattle.rows.specs.declared.call.Call.TheVariants.{Open, Close, Enable, Disable, Set, Load, Get, IsOn, ModeOf, ListSel, Supported, Listen, Events, Suspend, Resume, ReleaseBoot}
-use Rattle.rows.specs.CallText.{call_words, call_text}
+use Rattle.rows.specs.CallText.{call_words}
 use Rattle.rows.specs.Names.{IsHandleName}
 use Rattle.rows.specs.Reading.{IsCall, LacksSpace, NameLacks, NoCall, SpellsLine, SpellsWords}
 use Rattle.rows.specs.Words.{spaced, state_text}

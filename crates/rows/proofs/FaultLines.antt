@@ -1,5 +1,5 @@
 -- What stands behind the word of a fault, told in one way.
-use Rattle.std.proofs.Common.{ℕ, ◌≡◌, ◌≢◌, ◌^◌, ◌<◌, List, [], ◌∷◌, ◌++◌, codes, decimal, drop, get_or, length, All, flat_map, refl, sym, ap, ◌∙◌, arith, append_assoc, ◌⊎◌, inl, inr}
+use Rattle.std.proofs.Common.{ℕ, ◌≡◌, ◌^◌, ◌<◌, List, [], ◌∷◌, ◌++◌, codes, decimal, drop, get_or, All, flat_map, refl, sym, ap, ◌∙◌, arith, append_assoc, inl, inr}
 use Rattle.board.specs.declared.board.Board.{Board}
 use Rattle.board.specs.declared.rail_id.RailId.{RailId}
 use Rattle.board.specs.Valid.{HasNames}

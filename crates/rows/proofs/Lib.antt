@@ -17,5 +17,7 @@ pub mod Separators
 pub mod Spaces
 pub mod Spellings
 pub mod Walks
+mod WorkedCalls
+mod WorkedFits
 pub mod WorkedTexts
 pub mod WriteLines

@@ -1,7 +1,7 @@
 -- The one call that words are those of.
-use Rattle.std.proofs.Common.{ℕ, ◌≡◌, ◌^◌, ◌<◌, List, [], ◌∷◌, get_or, true, false, cond, codes, decimal, refl, sym, ap, ◌∙◌, arith}
+use Rattle.std.proofs.Common.{ℕ, ◌≡◌, ◌^◌, ◌<◌, List, [], get_or, true, false, cond, codes, decimal, refl, sym, ap, ◌∙◌, arith}
 use Rattle.std.specs.Str.{bytes_eq}
-use Rattle.std.specs.Str.Parse.{AllDigits, digits_value}
+use Rattle.std.specs.Str.Parse.{digits_value}
 use Rattle.std.proofs.lemmas.Fmt.{digits_value-decimal}
 use Rattle.arrayvec.specs.ArrayString.{ArrayString}
 use Rattle.board.specs.declared.rail_id.RailId.{RailId}
@@ -10,7 +10,7 @@ use Rattle.board.specs.declared.state.State.TheVariants.{Standby, Mem, Disk}
 use Rattle.rows.specs.declared.call.Call.{Call}
 use Rattle.rows.specs.declared.call.Call.TheVariants.{Open, Close, Enable, Disable, Set, Load, Get, IsOn, ModeOf, ListSel, Supported, Listen, Events, Suspend, Resume, ReleaseBoot}
 use Rattle.rows.specs.CallText.{call_words}
-use Rattle.rows.specs.Reading.{IsCall, LacksSpace, SpellsLine, SpellsWords, without_rail}
+use Rattle.rows.specs.Reading.{IsCall, LacksSpace, SpellsLine, without_rail}
 use Rattle.rows.proofs.CallWords.{words_lack, words_told}
 use Rattle.rows.proofs.Numerals.{decimal_model}
 
@@ -105,6 +105,7 @@ rail_words word ReleaseBoot named = sym named
 pub one_line : (line w v : List ℕ) (c d : Call) → SpellsLine w c line → SpellsLine v d line → (w ≡ v) × (without_rail c ≡ without_rail d)
 one_line line w v c d first second =
     let lacks = words_lack line w c first in
-    let told = words_told line v d second (call_words (λ _. w) c) first.spelled lacks.0 lacks.1 in
-    (sym (rail_words w c first.naming) ∙ ap rail_word told.spelled ∙ rail_words v d second.naming,
-    sym (decoded_words (λ _. w) c first.is) ∙ ap decoded told.spelled ∙ decoded_words (λ _. v) d second.is)
+    let told = words_told line v d second (call_words (λ _. w) c) first.spelled lacks.0 lacks.1 in (
+      sym (rail_words w c first.naming) ∙ ap rail_word told.spelled ∙ rail_words v d second.naming,
+      sym (decoded_words (λ _. w) c first.is) ∙ ap decoded told.spelled ∙ decoded_words (λ _. v) d second.is,
+    )

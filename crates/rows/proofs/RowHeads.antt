@@ -1,5 +1,5 @@
 -- What the line of a row has in front of its answer, told in one way.
-use Rattle.std.proofs.Common.{ℕ, ◌≡◌, ◌≢◌, ◌+◌, ◌^◌, ◌<◌, List, [], ◌∷◌, ◌++◌, codes, decimal, refl, sym, ap, ◌∙◌, arith}
+use Rattle.std.proofs.Common.{ℕ, ◌≡◌, ◌≢◌, ◌+◌, ◌^◌, ◌<◌, List, [], ◌∷◌, ◌++◌, codes, decimal, sym, ap, ◌∙◌, arith}
 use Rattle.std.proofs.lemmas.Fmt.{decimal_injective}
 use Rattle.board.specs.declared.board.Board.{Board}
 use Rattle.board.specs.declared.rail_id.RailId.{RailId}
@@ -12,7 +12,7 @@ use Rattle.rows.specs.RowLine.{spaces, first_word, arity, IsCallOn, IsHead}
 use Rattle.rows.specs.Words.{spaced}
 use Rattle.rows.proofs.BoardCalls.{call_name_lacks}
 use Rattle.rows.proofs.CallFronts.{call_front, nth_same, spaces-append}
-use Rattle.rows.proofs.Separators.{Lacks, not_split, split_once}
+use Rattle.rows.proofs.Separators.{Lacks, split_once}
 use Rattle.rows.proofs.Spaces.{Lacks-decimal, first_differs, second_differs}
 
 -- two numbers in front of a text, told apart from others

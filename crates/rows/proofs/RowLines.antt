@@ -1,5 +1,5 @@
 -- The first line of a row, told in one way from the lines of the row.
-use Rattle.std.proofs.Common.{ℕ, ◌≡◌, ◌≢◌, ◌+◌, ◌^◌, ◌<◌, List, [], ◌∷◌, ◌++◌, codes, decimal, length, nat_lt, true, false, All, flat_map, Bool, Option, None, Some, refl, sym, ap, ◌∙◌, subst, arith, append_assoc}
+use Rattle.std.proofs.Common.{ℕ, ◌≡◌, ◌≢◌, ◌^◌, ◌<◌, List, [], ◌∷◌, ◌++◌, codes, decimal, length, nat_lt, true, false, All, flat_map, Bool, Option, None, Some, refl, sym, ap, ◌∙◌, arith, append_assoc}
 use Rattle.std.specs.List.{list_all}
 use Rattle.std.specs.Prelude.{IfSome}
 use Rattle.std.proofs.lemmas.List.Elements.{All-nil, All-append, All-cons, All-head, All-tail}
@@ -20,7 +20,7 @@ use Rattle.rows.specs.CallText.{call_text, call_words}
 use Rattle.rows.specs.Fits.{Fits, FitsEvent, FitsNow, FitsTold, Told, told}
 use Rattle.rows.specs.Reading.{without_rail}
 use Rattle.rows.specs.Row.{rail_name, row_text, write_text}
-use Rattle.rows.specs.RowLine.{IsCallOn, IsHead}
+use Rattle.rows.specs.RowLine.{IsHead}
 use Rattle.rows.specs.Words.{spaced, hex_text, mode_text, on_text, yes_text}
 use Rattle.rows.proofs.BoardCalls.{call_name_lacks, rail_lacks, spells_on, word_of}
 use Rattle.rows.proofs.CallFronts.{call_front}
@@ -98,7 +98,7 @@ module _ (board : Board) (names : HasNames board) where
   answer_lacks kind (OkOn on) fits = joined (codes "ok" ∷ on_text on ∷ []) (text (codes "ok") refl, (on_lacks on, tt))
   answer_lacks kind (OkList uv) fits = joined (codes "ok" ∷ listed_text uv ∷ []) (text (codes "ok") refl, (listed_lacks uv fits.1, tt))
   answer_lacks kind (OkYes is) fits = joined (codes "ok" ∷ yes_text is ∷ []) (text (codes "ok") refl, (yes_lacks is, tt))
-  answer_lacks kind (OkEvents list) fits = 
+  answer_lacks kind (OkEvents list) fits =
       All-append (λ b. b ≢ 10) (spaced (codes "ok" ∷ decimal (length list) ∷ [])) (flat_map next_event_text list) (joined (codes "ok" ∷ decimal (length list) ∷ []) (text (codes "ok") refl, (number (length list) (omega (arith, fits.1)), tt))) (events_lack list fits.2)
   answer_lacks kind (BadRange lo hi) fits = joined (codes "badrange" ∷ decimal lo ∷ decimal hi ∷ []) (text (codes "badrange") refl, (number lo (omega (arith, fits.0)), (number hi (omega (arith, fits.1)), tt)))
   answer_lacks kind NoValue fits = text (codes "novalue") refl
@@ -114,7 +114,7 @@ module _ (board : Board) (names : HasNames board) where
   answer_lacks kind NotListening fits = text (codes "notlistening") refl
   answer_lacks kind Suspended fits = text (codes "suspended") refl
   answer_lacks kind NotSuspended fits = text (codes "notsuspended") refl
-  answer_lacks kind (Fault chip reg applied now) fits = 
+  answer_lacks kind (Fault chip reg applied now) fits =
       All-append (λ b. b ≢ 10) (spaced (codes "fault" ∷ decimal chip ∷ hex_text reg ∷ decimal applied ∷ [])) (flat_map (now_text (rail_name board)) now) (joined (codes "fault" ∷ decimal chip ∷ hex_text reg ∷ decimal applied ∷ []) (text (codes "fault") refl, (number chip (omega (arith, fits.0)), (byte reg, (number applied (omega (arith, fits.2)), tt))))) (nows_lack now fits.3)
 
   -- the first line of a row, without its newline

@@ -2,7 +2,7 @@
 use Rattle.std.proofs.Common.{ℕ, ◌≡◌, List, [], true, refl, sym, ap, ◌∙◌}
 use Rattle.rows.specs.declared.call.Call.{Call}
 use Rattle.rows.specs.declared.call.Call.TheVariants.{Open, Close, Enable, Disable, Set, Load, Get, IsOn, ModeOf, ListSel, Supported, Listen, Events, Suspend, Resume, ReleaseBoot}
-use Rattle.rows.specs.Reading.{IsWord, LacksSpace, NamesBy, opens, OneSpelling, Spells, SpellsLine, without_rail}
+use Rattle.rows.specs.Reading.{LacksSpace, NamesBy, opens, OneSpelling, Spells, SpellsLine, without_rail}
 use Rattle.rows.proofs.OneSpelling.{one_line}
 
 lacks : (word : List ℕ) (call : Call) → NamesBy call word → LacksSpace call word

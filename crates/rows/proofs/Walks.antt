@@ -25,8 +25,8 @@ module _ {X : Type 0} (f : X → List ℕ) (Fit : X → Type 0) where
     fits = All-push Fit read x walk.fits fit;
     parts = walk.parts ∙ ap (λ l. flat_map f read ++ l) here ∙ sym (append_assoc (flat_map f read) (f x) next) ∙ ap (λ l. l ++ next) (ap (λ l. flat_map f read ++ l) (sym (append-nil (f x))) ∙ sym (flat_map-append f read (x ∷ [])));
     only = λ xs fits same.
-      let rest = walk.only xs fits same in
-      next_of left next some cut rest.0 rest.1 rest.2;
+        let rest = walk.only xs fits same in
+        next_of left next some cut rest.0 rest.1 rest.2;
   }
 
   none_of : (left : List ℕ) → 0 < length left → ((y : X) (more : List X) → Fit y → All Fit more → left ≢ f y ++ flat_map f more) → (rest : List X) → All Fit rest → left ≢ flat_map f rest

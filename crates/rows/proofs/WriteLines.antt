@@ -5,7 +5,7 @@ use Rattle.board.specs.declared.write.Write.{Write}
 use Rattle.rows.specs.Fits.{FitsWrite}
 use Rattle.rows.specs.Row.{write_text}
 use Rattle.rows.specs.Words.{spaced, hex_text}
-use Rattle.rows.proofs.Cuts.{AllLack, Dense-decimal, Dense-hex_text, Lacks-dense, Lacks-spaced, dense_by_test}
+use Rattle.rows.proofs.Cuts.{Dense-decimal, Dense-hex_text, Lacks-dense, Lacks-spaced, dense_by_test}
 use Rattle.rows.proofs.Separators.{Lacks, split_once, not_split}
 
 abbrev pub write_line : Write → List ℕ

@@ -1,5 +1,5 @@
 -- Which rows a board can have.
-use Rattle.std.specs.Prelude.{ℕ, ◌≡◌, ◌≢◌, ◌^◌, ◌<◌, ◌≤◌, List, [], All, length, map, flat_map, Option, None, Some, IfSome}
+use Rattle.std.specs.Prelude.{ℕ, ◌≡◌, ◌^◌, ◌<◌, ◌≤◌, List, All, length, map, flat_map, IfSome}
 use Rattle.board.specs.declared.board.Board.{Board}
 use Rattle.board.specs.declared.event.Event.{Event}
 use Rattle.board.specs.declared.event.Event.TheVariants.{PreVoltageChange, VoltageChange, AbortVoltageChange, Enable as EnableEvent, PreDisable, Disable as DisableEvent, AbortDisable}

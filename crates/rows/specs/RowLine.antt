@@ -1,5 +1,5 @@
 -- What a row's first line tells.
-use Rattle.std.specs.Prelude.{ℕ, ◌≡◌, ◌^◌, ◌<◌, ◌+◌, ◌==◌, ◌||◌, Bool, List, [], ◌∷◌, ◌++◌, codes, decimal, if◌then◌else◌}
+use Rattle.std.specs.Prelude.{ℕ, ◌≡◌, ◌^◌, ◌<◌, ◌+◌, ◌==◌, ◌||◌, Bool, List, [], ◌∷◌, codes, decimal, if◌then◌else◌}
 use Rattle.std.specs.Str.{bytes_eq}
 use Rattle.board.specs.declared.board.Board.{Board}
 use Rattle.rows.specs.declared.call.Call.{Call}

@@ -112,7 +112,11 @@ fn middle_call<'a>(verb: &[u8], name: &[u8], operand: &'a [u8]) -> Option<(Call,
     let exclusive = verb == "openx";
     if exclusive || verb == "open" {
         let rail = RailId(0);
-        let call = Call::Open { handle, rail, exclusive };
+        let call = Call::Open {
+            handle,
+            rail,
+            exclusive,
+        };
         return Some((call, operand));
     }
     let call = number_call(verb, handle, operand)?;

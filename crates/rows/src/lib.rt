@@ -10,6 +10,7 @@ mod call_text;
 mod event_reading;
 mod fault_reading;
 mod handles;
+pub mod laws;
 mod numbers;
 pub mod reading;
 mod row;

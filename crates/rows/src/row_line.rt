@@ -91,7 +91,9 @@ fn read_call(board: &Board, text: &[u8]) -> Option<Call>
         None => None,
         Some((call, word)) => match &call {
             Call::Open {
-                handle, exclusive, ..
+                handle,
+                exclusive,
+                ..
             } => {
                 let rail = rail_named(board, word)?;
                 Some(Call::Open {

@@ -1,4 +1,4 @@
-use Rattle.std.proofs.Common.{◌≡◌, ◌≢◌, ◌∷◌, [], refl, Option, None, Some, sym, subst}
+use Rattle.std.proofs.Common.{◌≡◌, ◌≢◌, ◌∷◌, [], refl, Option, None, Some}
 use Rattle.std.specs.Prelude.{IfNone, IfErr}
 use Rattle.rows.specs.declared.answer.Answer.{Answer}
 use Rattle.rows.specs.declared.row_fault.RowFault.{RowFault}

@@ -1,4 +1,4 @@
-use Rattle.std.proofs.Common.{ℕ, ◌≡◌, List, [], ◌∷◌, ◌++◌, refl, ap, ◌∙◌, arith}
+use Rattle.std.proofs.Common.{[], ◌∷◌, ◌++◌, refl, ap, ◌∙◌, arith}
 use Rattle.rows.specs.Reading.{NoCall}
 use Rattle.rows.proofs.CallWords.{no_line, no_long_line}
 use Rattle.rows.proofs.Options.{none_then}

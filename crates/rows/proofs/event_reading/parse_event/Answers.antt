@@ -1,4 +1,4 @@
-use Rattle.std.proofs.Common.{◌≡◌, ◌∷◌, [], refl}
+use Rattle.std.proofs.Common.{◌∷◌, [], refl}
 use Rattle.board.specs.declared.event.Event.{Event}
 use Rattle.rows.specs.Tails.{IsEvent}
 use Rattle.rows.proofs.Options.{none_then, some_then}

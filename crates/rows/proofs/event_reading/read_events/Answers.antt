@@ -1,4 +1,4 @@
-use Rattle.std.proofs.Common.{decimal, length, arith, sym, ◌∙◌}
+use Rattle.std.proofs.Common.{length, arith, sym, ◌∙◌}
 use Rattle.std.proofs.lemmas.Fmt.{decimal_injective}
 use Rattle.rows.proofs.EventLines.{count_told, events_same}
 use Rattle.rows.proofs.event_reading.read_events.Goals as goal

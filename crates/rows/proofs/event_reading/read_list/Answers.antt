@@ -1,4 +1,4 @@
-use Rattle.std.proofs.Common.{◌≡◌, ◌<◌, length, sym, ◌∙◌, rules}
+use Rattle.std.proofs.Common.{◌<◌, length, sym, ◌∙◌, rules}
 use Rattle.rows.specs.AnswerText.{next_event_text}
 use Rattle.rows.specs.Fits.{FitsEvent}
 use Rattle.rows.proofs.EventLines.{event_cut, events_tail}

@@ -1,6 +1,6 @@
-use Rattle.std.proofs.Common.{◌≡◌, ◌++◌, ◌∷◌, codes, decimal, ap, sym, ◌∙◌}
+use Rattle.std.proofs.Common.{◌++◌, ◌∷◌, decimal, ap, sym, ◌∙◌}
 use Rattle.rows.specs.Row.{rail_name}
-use Rattle.rows.proofs.FaultLines.{name_told, value_told, no_name, now_made}
+use Rattle.rows.proofs.FaultLines.{name_told, value_told, no_name}
 use Rattle.rows.proofs.Separators.{not_split}
 use Rattle.rows.proofs.fault_reading.read_now.Goals as goal
 

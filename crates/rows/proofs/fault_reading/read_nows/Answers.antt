@@ -1,4 +1,4 @@
-use Rattle.std.proofs.Common.{◌≡◌, ◌<◌, length, sym, ◌∙◌, rules}
+use Rattle.std.proofs.Common.{◌<◌, length, sym, ◌∙◌, rules}
 use Rattle.rows.specs.AnswerText.{now_text}
 use Rattle.rows.specs.Fits.{FitsNow}
 use Rattle.rows.specs.Row.{rail_name}

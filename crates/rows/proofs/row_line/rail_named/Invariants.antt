@@ -1,4 +1,4 @@
-use Rattle.std.proofs.Common.{◌≡◌, ◌≢◌, ℕ, ◌<◌}
+use Rattle.std.proofs.Common.{◌≢◌, ℕ, ◌<◌}
 use Rattle.rows.specs.Row.{rail_name}
 use Rattle.rows.proofs.row_line.rail_named.Given as goal
 

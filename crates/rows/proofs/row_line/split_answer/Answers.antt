@@ -1,4 +1,4 @@
-use Rattle.std.proofs.Common.{◌++◌, ◌∷◌, codes, rules}
+use Rattle.std.proofs.Common.{◌++◌, ◌∷◌, codes}
 use Rattle.rows.proofs.RowHeads.{front_absent, front_is}
 use Rattle.rows.proofs.row_line.split_answer.Goals as goal
 

@@ -1,8 +1,4 @@
-use Rattle.std.proofs.Common.{ℕ, ◌≡◌, ◌<◌, ◌∙◌, sym, arith, rules}
-use Rattle.std.specs.Prelude.{IfSome, IfNone}
-use Rattle.rows.specs.RowLine.{arity, first_word, spaces}
 use Rattle.rows.proofs.CallFronts.{arity_cut, none_cut}
-use Rattle.rows.proofs.Options.{none_then}
 use Rattle.rows.proofs.row_line.split_call.Goals as goal
 
 pub returns-in_err-verb-clause-none : goal.returns-in_err-verb-clause-none

@@ -1,4 +1,4 @@
-use Rattle.std.proofs.Common.{◌++◌, ◌∷◌, decimal, arith}
+use Rattle.std.proofs.Common.{◌++◌, ◌∷◌, decimal}
 use Rattle.rows.proofs.RowHeads.{others_differ, worker_differs}
 use Rattle.rows.proofs.Separators.{not_split}
 use Rattle.rows.proofs.Spaces.{first_differs, Lacks-decimal}

@@ -1,7 +1,6 @@
-use Rattle.std.proofs.Common.{◌≡◌, ◌++◌, ◌∷◌, flat_map, sym, ap, ◌∙◌, subst}
-use Rattle.rows.specs.declared.row.Row.{Row}
+use Rattle.std.proofs.Common.{sym, ◌∙◌, subst}
 use Rattle.rows.specs.AnswerText.{answer_text}
-use Rattle.rows.specs.Fits.{Fits, FitsTold, told}
+use Rattle.rows.specs.Fits.{FitsTold}
 use Rattle.rows.specs.Row.{rail_name}
 use Rattle.rows.proofs.RowLines.{answer_same, kind_same, row_cut, row_is_head}
 use Rattle.rows.proofs.row_reading.read_row.Goals as goal

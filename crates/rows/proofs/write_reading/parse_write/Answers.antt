@@ -1,4 +1,4 @@
-use Rattle.std.proofs.Common.{ℕ, ◌≡◌, ◌++◌, ◌∷◌, [], List, decimal, arith, sym, ◌∙◌}
+use Rattle.std.proofs.Common.{ℕ, ◌++◌, ◌∷◌, [], List, decimal, arith, sym, ◌∙◌}
 use Rattle.std.proofs.lemmas.Fmt.{decimal_injective}
 use Rattle.board.specs.declared.write.Write.{Write}
 use Rattle.rows.specs.Words.{spaced, hex_text}
@@ -64,6 +64,6 @@ returns-then-chip-board-clause-none c = λ write fits same.
     let a = c.in_ok-chip in
     first_differs f.words.now a.chip.now a.words.now (decimal write.chip) (rest write) a.ensures.parts a.ensures.first (Lacks-decimal write.chip (omega (arith, fits.1)))
     (λ equal.
-      let chip = decimal_injective c.in_ok-chip-2.chip write.chip (omega arith) (omega (arith, fits.1)) (sym c.in_ok-chip-2.ensures.some ∙ equal) in
-      omega (arith, fits.0))
+    let chip = decimal_injective c.in_ok-chip-2.chip write.chip (omega arith) (omega (arith, fits.1)) (sym c.in_ok-chip-2.ensures.some ∙ equal) in
+    omega (arith, fits.0))
     (behind_sign c.args.line.now f.words.now f.ensures.some write same)

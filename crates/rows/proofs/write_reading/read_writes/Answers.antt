@@ -1,5 +1,4 @@
-use Rattle.std.proofs.Common.{◌≡◌, ◌<◌, List, length, sym, ◌∙◌, rules}
-use Rattle.board.specs.declared.write.Write.{Write}
+use Rattle.std.proofs.Common.{◌<◌, length, sym, ◌∙◌, rules}
 use Rattle.rows.specs.Fits.{FitsWrite}
 use Rattle.rows.specs.Row.{write_text}
 use Rattle.rows.proofs.Walks.{walk_more, walk_none}
