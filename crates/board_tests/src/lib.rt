@@ -5,15 +5,25 @@
 #[cfg(test)]
 mod asked;
 #[cfg(test)]
+mod books;
+#[cfg(test)]
 mod chips;
+#[cfg(test)]
+mod counts;
 #[cfg(test)]
 mod graphs;
 #[cfg(test)]
+mod handle_rows;
+#[cfg(test)]
 mod items;
+#[cfg(test)]
+mod laws;
 #[cfg(test)]
 mod lists;
 #[cfg(test)]
 mod modes;
+#[cfg(test)]
+mod names;
 #[cfg(test)]
 mod outside;
 #[cfg(test)]
@@ -22,6 +32,8 @@ mod rails;
 mod ranges;
 #[cfg(test)]
 mod registers;
+#[cfg(test)]
+mod requests;
 #[cfg(test)]
 mod same;
 #[cfg(test)]
