@@ -25,5 +25,6 @@ mod Tests
 mod TextLines
 mod Texts
 mod Trimmed
+mod WorkedClauses
 mod WorkedFrames
 mod WorkedSessions
