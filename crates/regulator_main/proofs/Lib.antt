@@ -27,5 +27,8 @@ mod Took
 mod Tries
 mod Walked
 mod Way
+mod WorkedOutside
+mod WorkedPlaying
+mod WorkedReplies
 mod WorkedRuns
 mod Workers

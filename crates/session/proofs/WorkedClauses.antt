@@ -6,6 +6,7 @@ use Rattle.arrayvec.specs.ArrayString.{ArrayString}
 use Rattle.board.specs.declared.board.Board.{Board}
 use Rattle.board.specs.declared.rail.Rail.{Rail}
 use Rattle.board.specs.declared.rail_id.RailId.{RailId}
+use Rattle.board.specs.declared.write.Write.{Write}
 use Rattle.board.specs.Lone.{IsLone}
 use Rattle.rows.specs.declared.call.Call.{Call}
 use Rattle.rows.specs.declared.call.Call.TheVariants.{Open, Set, Get, Enable}
@@ -213,13 +214,13 @@ at_the_board = refl
 -- two sessions that differ in one thing alone say something else
 module _ (session : Session) where
   other_refusals : ¬ SayTheSame (record session { refusals = (1, 1) ∷ [] }) (record session { refusals = [] })
-  other_refusals same = let refusals : (1, 1) ∷ [] ≡ [] = same.refusals in cc
+  other_refusals same = let refusals : ◌≡◌ {A = List (ℕ × ℕ)} ((1, 1) ∷ []) [] = same.refusals in cc
 
   other_scripts : ¬ SayTheSame (record session { scripts = [] ∷ [] }) (record session { scripts = [] })
   other_scripts same = let scripts : map (map call_line) ([] ∷ []) ≡ [] = same.scripts in cc
 
   other_writes : ¬ SayTheSame (record session { loaded = record session.loaded { writes = record { chip = 0; reg = 16; mask = 127; bits = 32 } ∷ [] } }) (record session { loaded = record session.loaded { writes = [] } })
-  other_writes same = let writes : record { chip = 0; reg = 16; mask = 127; bits = 32 } ∷ [] ≡ [] = same.writes in cc
+  other_writes same = let writes : ◌≡◌ {A = List Write} (record { chip = 0; reg = 16; mask = 127; bits = 32 } ∷ []) [] = same.writes in cc
 
   other_boards : ¬ SayTheSame (record session { loaded = record session.loaded { board = record session.loaded.board { chips = 1 } } }) (record session { loaded = record session.loaded { board = record session.loaded.board { chips = 2 } } })
   other_boards same = let chips : 1 ≡ 2 = ap (λ (board : Board). board.chips) same.boards in omega (arith, chips)
