@@ -1,5 +1,5 @@
 -- Boards worked out by hand.
-use Rattle.std.proofs.Common.{◌≡◌, ℕ, false, List, [], ◌∷◌, map, Some, None, refl}
+use Rattle.std.proofs.Common.{◌≡◌, ℕ, false, true, List, [], ◌∷◌, map, Some, None, refl}
 use Rattle.std.specs.Prelude.{codes}
 use Rattle.dts_tree.specs.declared.value.Cell.TheVariants.{Num, Node as Reference}
 use Rattle.dts_tree.specs.Value.{Part, Property, Cells, Text}
@@ -7,7 +7,9 @@ use Rattle.dts_tree.specs.Tree.{Node}
 use Rattle.board_draft.specs.declared.fault.BoardFault.TheVariants.{NoRails, FixedRange, BadCells, NoSupply, SupplyLoop, NoCouple, OneWay, NoSpread, SpreadsDiffer, CoupledSupplier}
 use Rattle.constraints.specs.declared.prop.Prop.TheVariants.{Supply}
 use Rattle.board_draft.specs.Faults.{first_fault}
+use Rattle.board_draft.specs.Links.{graph_of}
 use Rattle.board_draft.specs.Sketch.{sketch_of}
+use Rattle.board_nodes.specs.Rails.{Found, fixed_desc}
 
 abbrev property : List ℕ → List (Part ℕ) → Property ℕ
 property name parts = record { name = name; parts = parts }
@@ -80,6 +82,13 @@ one_way_back = refl
 with_itself : first_fault (pair (coupled 1 100000) (coupled 1 100000)) ≡ Some (NoCouple 0)
 with_itself = refl
 
+-- the first one names the second twice, or what is no rail
+named_twice : first_fault (pair (property (codes "regulator-coupled-with") (Cells (Reference 2 ∷ Reference 2 ∷ []) ∷ []) ∷ number (codes "regulator-coupled-max-spread") 100000 ∷ []) (coupled 1 100000)) ≡ Some (NoCouple 0)
+named_twice = refl
+
+with_no_rail : first_fault (pair (coupled 0 100000) (coupled 1 100000)) ≡ Some (NoCouple 0)
+with_no_rail = refl
+
 no_spread : first_fault (pair (coupled 2 100000) (reference (codes "regulator-coupled-with") 1 ∷ [])) ≡ Some (NoSpread 1)
 no_spread = refl
 
@@ -109,3 +118,22 @@ none_may_change = refl
 
 its_chips : (sketch_of (pair [] [])).chips ≡ 1
 its_chips = refl
+
+-- three rails, the first of which has room between its bounds and supplies the second, which supplies the third
+abbrev chain : List Node
+chain =
+    root
+    ∷ node (codes "a") 0 (bounds 800000 900000 [])
+    ∷ node (codes "b") 0 (bounds 5000000 5000000 (reference (codes "vin-supply") 1 ∷ []))
+    ∷ node (codes "c") 0 (bounds 5000000 5000000 (reference (codes "vin-supply") 2 ∷ []))
+    ∷ []
+
+abbrev found : ℕ → ℕ → Found
+found dropout node = record { name = []; node = node; chip_node = None; supply = codes "vin"; desc = record (fixed_desc 0 0 5000000) { dropout = dropout } }
+
+-- a rail is linked where it has a dropout and its supply has room
+its_link : (graph_of chain (map (found 100000) (1 ∷ 2 ∷ 3 ∷ []))).link ≡ false ∷ true ∷ false ∷ []
+its_link = refl
+
+no_link : (graph_of chain (map (found 0) (1 ∷ 2 ∷ 3 ∷ []))).link ≡ false ∷ false ∷ false ∷ []
+no_link = refl

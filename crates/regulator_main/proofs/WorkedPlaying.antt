@@ -1,5 +1,5 @@
 -- Histories of scripts, and what wires are told of them and of a load: what breaks each clause alone.
-use Rattle.std.specs.Prelude.{◌≡◌, ◌==◌, ℕ, false, true, List, [], ◌∷◌, Option, Some, None, slice_get, if◌then◌else◌, zero, suc}
+use Rattle.std.specs.Prelude.{◌≡◌, ◌==◌, ℕ, false, true, List, [], ◌∷◌, Some, None, slice_get, if◌then◌else◌, zero, suc}
 use Rattle.std.proofs.Common.{refl, sym, ap, ◌∙◌, subst, arith, eqb}
 use Rattle.std.proofs.lemmas.Bool.{ne_eqb}
 use Rattle.std.proofs.lemmas.List.Elements.{All-nil, All-head}

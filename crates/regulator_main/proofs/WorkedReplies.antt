@@ -1,23 +1,23 @@
 -- Replies to a text, and runs of the program: what breaks each clause alone.
-use Rattle.std.specs.Prelude.{◌≡◌, ◌≢◌, ◌==◌, ◌+◌, ◌⊎◌, ℕ, List, [], ◌∷◌, ◌++◌, length, codes, Option, Some, None, if◌then◌else◌, slice_get}
-use Rattle.std.proofs.Common.{refl, sym, ap, ◌∙◌, subst, arith, length-append}
+use Rattle.std.specs.Prelude.{◌≡◌, ◌≢◌, ◌==◌, ◌⊎◌, ℕ, List, [], ◌∷◌, ◌++◌, length, codes, Option, Some, None, if◌then◌else◌, slice_get}
+use Rattle.std.proofs.Common.{refl, sym, ap, ◌∙◌, arith, length-append}
 use Rattle.std.proofs.Math.Logic.{⊎_elim}
-use Rattle.reg_outside.specs.Told.{with_before, with_more}
+use Rattle.reg_outside.specs.Told.{with_before}
 use Rattle.board.specs.declared.write.Write.{Write}
 use Rattle.plain_board.specs.Inv.{Inv}
 use Rattle.plain_board.specs.Stops.{is_planned}
 use Rattle.rows.specs.declared.row.Row.{Row}
 use Rattle.session.specs.declared.fault.SessionFault.{SessionFault}
-use Rattle.session.specs.declared.fault.SessionKind.TheVariants.{Memory as no_memory, TooLong}
+use Rattle.session.specs.declared.fault.SessionKind.TheVariants.{Memory as no_memory}
 use Rattle.session.specs.declared.session.Session.{Session}
-use Rattle.session.specs.Session.{session_limit, IsSession, FirstFault}
+use Rattle.session.specs.Session.{IsSession, FirstFault}
 use Rattle.session.specs.Text.{refusal_text}
 use Rattle.regulator_main.specs.declared.status.Status.{Status}
-use Rattle.regulator_main.specs.declared.status.Status.TheVariants.{Done, Memory, Words, ReadFault, WriteFault, SessionRefused, LoadFault}
+use Rattle.regulator_main.specs.declared.status.Status.TheVariants.{Done, Memory, Words, ReadFault, SessionRefused, LoadFault}
 use Rattle.regulator_main.specs.declared.words.Command.{Command}
-use Rattle.regulator_main.specs.declared.words.Command.TheVariants.{Check, Solo}
+use Rattle.regulator_main.specs.declared.words.Command.TheVariants.{Check}
 use Rattle.regulator_main.specs.Bringing.{planned_stop}
-use Rattle.regulator_main.specs.Front.{Answers, WantsMemory, CantRead, CommandGoes, IsNoCommand, IsCommand, Goes, IsGiven, AnswersSessions, AnswersFaults, IsRun}
+use Rattle.regulator_main.specs.Front.{Answers, WantsMemory, CantRead, CommandGoes, IsNoCommand, IsCommand, IsGiven, AnswersSessions, IsRun}
 use Rattle.regulator_main.specs.Input.{TookAtMost}
 use Rattle.regulator_main.specs.Outside.{Outside, Output, outside, WritesWhole, IsCut}
 use Rattle.regulator_main.specs.Reply.{Reply, Checks, RunsWhole, StopsAtLoad, DoesSession, Refuses, Replies}

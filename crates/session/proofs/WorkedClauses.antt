@@ -17,7 +17,6 @@ use Rattle.plain_board.specs.declared.plain.Plain.{Plain}
 use Rattle.session.specs.declared.fault.SessionFault.{SessionFault}
 use Rattle.session.specs.declared.fault.SessionKind.TheVariants.{TooLong, BadSession, NotYet, Memory}
 use Rattle.session.specs.declared.session.Session.{Session}
-use Rattle.session.specs.declared.setup.Setup.{Setup}
 use Rattle.session.specs.declared.setup.Setup.TheVariants.{Register, Refusal}
 use Rattle.session.specs.BoardText.{of_board}
 use Rattle.session.specs.Forms.{most_workers, most_lines, AreBuiltLines, IsBuilt, HasFewWorkers, IsWithinLimits}
