@@ -1,4 +1,4 @@
-ghost use Rattle.std.specs.Prelude.{◌≡◌, ℕ, ◌+◌, ◌<◌, ◌^◌, [], ◌∷◌, ◌++◌, All, None, Some, false, IsOk, IsSome, filter, filter_map, length, not, position, remove, slice_get, slice_set, IfSome, IfOk, OnOk, OnErr};
+ghost use Rattle.std.specs.Prelude.{◌≡◌, ℕ, ◌+◌, ◌<◌, ◌^◌, [], ◌∷◌, ◌++◌, All, None, Some, List, false, IsOk, IsSome, filter, filter_map, length, not, position, remove, slice_get, slice_set, IfSome, IfOk, OnOk, OnErr};
 ghost use Rattle.board.specs.Rail.{is_within};
 ghost use Rattle.use_counts.specs.Counts.{uses_of};
 ghost use Rattle.use_counts.specs.Uses.{is_row_of};
@@ -209,5 +209,12 @@ impl RailState {
         ensures err { OnErr result (self.new ≡ self.old) }
     {
         self.events.push(event)
+    }
+
+    /// Takes back what was told last.
+    pub fn untell(&mut self)
+        ensures { (events : List Event) (last : Event) → self.old.events ≡ events ++ last ∷ [] → self.new ≡ record self.old { events = events } }
+    {
+        self.events.pop();
     }
 }
