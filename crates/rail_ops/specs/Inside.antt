@@ -1,0 +1,8 @@
+-- What serves the contracts inside the crate, and nobody has to believe.
+pub mod Seen
+pub mod Raised
+pub mod Supplied
+pub mod Rising
+pub mod Alone
+pub mod AloneLaws
+pub mod Enabling

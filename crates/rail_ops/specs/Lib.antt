@@ -1,0 +1,5 @@
+pub mod Sight
+pub mod Foreign
+pub mod Taking
+pub mod Exact
+pub mod Inside

@@ -1,0 +1,90 @@
+ghost use Rattle.std.specs.Prelude.{◌≡◌, IfOk, IsOk, OnErr};
+ghost use Rattle.board.specs.Valid.{IsValid};
+ghost use Rattle.reg_outside.specs.Bus.{told_by};
+ghost use Rattle.plain_board.specs.Untied.{CountsNoLoads, IsUntied};
+ghost use Rattle.rail_ops.specs.Exact.{Leaves, Performs};
+ghost use Rattle.rail_ops.specs.Sight.{IsReady, placed, shown_by};
+
+use crate::enabling::enable;
+use crate::looking;
+use crate::outcome::{Outcome, without_writes};
+use board::{Board, Handle};
+use rail_state::Rails;
+use reg_outside::Wire;
+use rows::Call;
+use std::alloc::{AllocError, Global};
+use use_counts::Mine;
+
+/// A worker at its board: the rails that it holds, its wire, its open names, and whether it keeps the
+/// register writes that its calls make.
+pub struct Desk<'a, R: Rails, W: Wire> {
+    pub board: &'a Board,
+    pub rails: &'a mut R,
+    pub wire: &'a mut W,
+    pub mine: &'a mut Mine,
+    pub worker: u16,
+    pub keep: bool,
+}
+
+impl<'a, R: Rails, W: Wire> Desk<'a, R, W> {
+    /// Where the rail of a handle stands, in µV.
+    pub fn get(&mut self, alloc: Global, handle: Handle) -> Result<Outcome, AllocError>
+        requires valid { IsValid self.old.board.now }
+        requires board { R.board self.old.rails.now ≡ self.old.board.now }
+        requires fits { R.fits self.old.rails.now }
+        requires ready { IsReady (placed (shown_by R.board R.rails R.bits R.states self.old.rails.now) self.old.mine.now self.old.worker) (Call.Get handle) }
+        ensures exact { IfOk result (λ outcome. Performs (Call.Get handle) (placed (shown_by R.board R.rails R.bits R.states self.old.rails.now) self.old.mine.now self.old.worker) (placed (shown_by R.board R.rails R.bits R.states self.new.rails.now) self.new.mine.now self.new.worker) (told_by W.accepted W.plan W.faults self.old.wire.now) (told_by W.accepted W.plan W.faults self.new.wire.now) self.old.keep outcome.answer outcome.writes) }
+        ensures ok { IsOk result }
+        ensures fits { R.fits self.new.rails.now }
+        ensures board { R.board self.new.rails.now ≡ R.board self.old.rails.now }
+        ensures base { R.base self.new.rails.now ≡ R.base self.old.rails.now }
+    {
+        let answer = looking::get(self.board, self.rails, self.mine, self.worker, &handle);
+        Ok(without_writes(alloc, answer))
+    }
+
+    /// Whether the rail of a handle is on.
+    pub fn is_on(&mut self, alloc: Global, handle: Handle) -> Result<Outcome, AllocError>
+        requires valid { IsValid self.old.board.now }
+        requires board { R.board self.old.rails.now ≡ self.old.board.now }
+        requires fits { R.fits self.old.rails.now }
+        requires ready { IsReady (placed (shown_by R.board R.rails R.bits R.states self.old.rails.now) self.old.mine.now self.old.worker) (Call.IsOn handle) }
+        ensures exact { IfOk result (λ outcome. Performs (Call.IsOn handle) (placed (shown_by R.board R.rails R.bits R.states self.old.rails.now) self.old.mine.now self.old.worker) (placed (shown_by R.board R.rails R.bits R.states self.new.rails.now) self.new.mine.now self.new.worker) (told_by W.accepted W.plan W.faults self.old.wire.now) (told_by W.accepted W.plan W.faults self.new.wire.now) self.old.keep outcome.answer outcome.writes) }
+        ensures ok { IsOk result }
+        ensures fits { R.fits self.new.rails.now }
+        ensures board { R.board self.new.rails.now ≡ R.board self.old.rails.now }
+        ensures base { R.base self.new.rails.now ≡ R.base self.old.rails.now }
+    {
+        let answer = looking::is_on(self.board, self.rails, self.mine, self.worker, &handle);
+        Ok(without_writes(alloc, answer))
+    }
+
+    /// Enables a handle once more: the rails that it rests on are switched on where they are off, each
+    /// once its supply is on, and the time in µs is answered that they take. At `Err` the memory was out
+    /// on the way: the enable isn't counted, and what was switched on stays on.
+    pub fn enable(&mut self, alloc: Global, handle: Handle) -> Result<Outcome, AllocError>
+        requires valid { IsValid self.old.board.now }
+        requires untied { IsUntied self.old.board.now }
+        requires no_loads { CountsNoLoads self.old.board.now }
+        requires board { R.board self.old.rails.now ≡ self.old.board.now }
+        requires fits { R.fits self.old.rails.now }
+        requires ready { IsReady (placed (shown_by R.board R.rails R.bits R.states self.old.rails.now) self.old.mine.now self.old.worker) (Call.Enable handle) }
+        ensures exact { IfOk result (λ outcome. Performs (Call.Enable handle) (placed (shown_by R.board R.rails R.bits R.states self.old.rails.now) self.old.mine.now self.old.worker) (placed (shown_by R.board R.rails R.bits R.states self.new.rails.now) self.new.mine.now self.new.worker) (told_by W.accepted W.plan W.faults self.old.wire.now) (told_by W.accepted W.plan W.faults self.new.wire.now) self.old.keep outcome.answer outcome.writes) }
+        ensures err { OnErr result (Leaves (Call.Enable handle) (placed (shown_by R.board R.rails R.bits R.states self.old.rails.now) self.old.mine.now self.old.worker) (placed (shown_by R.board R.rails R.bits R.states self.new.rails.now) self.new.mine.now self.new.worker) (told_by W.accepted W.plan W.faults self.old.wire.now) (told_by W.accepted W.plan W.faults self.new.wire.now)) }
+        ensures fits { R.fits self.new.rails.now }
+        ensures board { R.board self.new.rails.now ≡ R.board self.old.rails.now }
+        ensures rails { R.rails self.new.rails.now ≡ R.rails self.old.rails.now }
+        ensures base { R.base self.new.rails.now ≡ R.base self.old.rails.now }
+    {
+        enable(
+            alloc,
+            self.board,
+            self.rails,
+            self.wire,
+            self.mine,
+            self.worker,
+            self.keep,
+            &handle,
+        )
+    }
+}

@@ -1,0 +1,14 @@
+//! Calls on handles over some rails of a board in a worker's hands: each answers as the plain board does that the rails show, and leaves the rails showing the plain board after it.
+#![tactic(auto)]
+
+mod alone;
+mod desk;
+mod enabling;
+mod looking;
+mod outcome;
+mod rising;
+mod switching;
+
+pub use alone::Alone;
+pub use desk::Desk;
+pub use outcome::Outcome;
