@@ -64,7 +64,7 @@ module _ (old books : List Book) (handles : List Entry) (n k : ℕ) (entry : Ent
   grown : (i : ℕ) → rows_on (take (k + 1) handles) i ≡ rows_on (take k handles ++ entry ∷ []) i
   grown i = ap (λ es. rows_on es i) (take_more handles k entry within ∙ ap (λ e. take k handles ++ e ∷ []) (sym is))
 
-  pub room_for : length handles < 2 ^ 32 → length book.rows + 1 < 2 ^ 32
+  pub room_for : k < 4294967295 → length book.rows + 1 < 2 ^ 32
   room_for few =
       let rows = ap (λ (b : Book). length b.rows) book_is in
       omega (arith, rows, few_on (take k handles) entry.0.0, length-take-le k handles (omega (arith, within)))

@@ -19,4 +19,7 @@ pub mod AloneMade
 pub mod AloneShown
 pub mod AlonePlain
 pub mod AloneOne
+pub mod AloneFew
 mod WorkedForeign
+pub mod WorkedSight
+mod WorkedExact

@@ -1,11 +1,13 @@
-ghost use Rattle.std.specs.Prelude.{◌≡◌, ◌<◌, ◌+◌, ◌^◌, ◌&&◌, ◌++◌, [], ℕ, Bool, All, AllPairs, List, IfOk, IfSome, OnOk, length, map, replicate, slice_index, if◌then◌else◌, vec_len};
+ghost use Rattle.std.specs.Prelude.{◌≡◌, ◌<◌, ◌≤◌, ◌+◌, ◌&&◌, ◌++◌, [], ℕ, Bool, All, AllPairs, List, IfOk, IfSome, OnOk, length, map, replicate, slice_index, if◌then◌else◌, vec_len};
 ghost use Rattle.board_graph.specs.Sets.{rails_of};
 ghost use Rattle.board.specs.Desc.{ArePlaced};
 ghost use Rattle.board.specs.Rail.{is_on};
 ghost use Rattle.board.specs.Valid.{IsValid};
 ghost use Rattle.plain_board.specs.declared.plain.Plain.{Plain as PlainBoard};
 ghost use Rattle.plain_board.specs.Counts.{is_supply};
+ghost use Rattle.plain_board.specs.Handles.{count_own};
 ghost use Rattle.plain_board.specs.Inv.{Inv, StandApart};
+ghost use Rattle.plain_board.specs.Refusals.{most_handles};
 ghost use Rattle.plain_board.specs.Untied.{HoldFields};
 ghost use Rattle.rail_ops.specs.Sight.{Shows, shown_by};
 ghost use Rattle.rail_ops.specs.Foreign.{foreign};
@@ -149,6 +151,13 @@ fn without_handles(
     Ok(states)
 }
 
+/// A worker's number has 16 bits.
+fn has_number(row: &HandleRow)
+    ensures { row.now.worker < 65536 }
+{
+    let _worker = row.worker;
+}
+
 /// The states with these handles, each on its rail.
 fn with_handles(
     mut states: Vec<RailState>,
@@ -157,10 +166,11 @@ fn with_handles(
     requires blank { All (λ book. book.rows ≡ []) states.items }
     requires rails { All (λ entry. entry.0.0 < vec_len states) handles.now }
     requires apart { AllPairs StandApart handles.now }
-    requires few { length handles.now < 2 ^ 32 }
+    requires few { (worker : ℕ) → count_own handles.now worker ≤ most_handles }
     ensures { IfOk result (λ made. AreBooks (vec_len states) (with_rows states.items handles.now) made.items) }
 {
     for (on, row) in handles {
+        has_number(row);
         states[usize::from(on.0)].add(*row)?;
     }
     Ok(states)
@@ -234,7 +244,6 @@ impl<'b> Alone<'b> {
         requires valid { IsValid board.now }
         requires inv { Inv board.now plain }
         requires hold { HoldFields board.now plain.regs }
-        requires few { length plain.handles < 2 ^ 32 }
         ensures fits { IfOk result (λ s. ⟦<Alone<'b> as Rails>⟧.fits s) }
         ensures board { IfOk result (λ s. ⟦<Alone<'b> as Rails>⟧.board s ≡ board.now) }
         ensures rails { IfOk result (λ s. ⟦<Alone<'b> as Rails>⟧.rails s ≡ rails_of board.now.graph) }
