@@ -1,5 +1,5 @@
 -- How many handles there can be: a worker has at most 64, and a worker's number has 16 bits.
-use Rattle.std.proofs.Common.{◌≡◌, ℕ, zero, suc, ◌+◌, ◌*◌, ◌<◌, ◌≤◌, ◌^◌, Bool, true, false, cond, eqb, ltb, List, [], ◌∷◌, ◌++◌, refl, sym, ap, ◌∙◌, arith, length, take, drop, All, count_by, eq-eqb}
+use Rattle.std.proofs.Common.{◌≡◌, ℕ, zero, suc, ◌+◌, ◌*◌, ◌<◌, ◌≤◌, Bool, true, false, cond, eqb, ltb, List, [], ◌∷◌, refl, sym, ap, ◌∙◌, arith, length, take, drop, All, count_by, eq-eqb}
 use Rattle.std.proofs.lemmas.Bool.{eqb-true, ltb-true, ltb-false, lt-ltb, le-ltb, false≢true}
 use Rattle.std.proofs.lemmas.List.{take-append-drop, length-take-le}
 use Rattle.std.proofs.lemmas.List.Elements.{All-head, All-tail}
@@ -27,8 +27,14 @@ either w n false false less same =
 one_more : (es : List Entry) (n : ℕ) → below (n + 1) es ≡ below n es + count_own es n
 one_more [] n = refl
 one_more (e ∷ es) n =
-    omega (arith, sum_by-cons (λ (x : Entry). one_if (ltb x.1.worker (n + 1))) e es, sum_by-cons (λ (x : Entry). one_if (ltb x.1.worker n)) e es,
-    sum_by-cons (λ (x : Entry). one_if (eqb x.1.worker n)) e es, one_more es n, either e.1.worker n (ltb e.1.worker n) (eqb e.1.worker n) refl refl)
+    omega (
+      arith,
+      sum_by-cons (λ (x : Entry). one_if (ltb x.1.worker (n + 1))) e es,
+      sum_by-cons (λ (x : Entry). one_if (ltb x.1.worker n)) e es,
+      sum_by-cons (λ (x : Entry). one_if (eqb x.1.worker n)) e es,
+      one_more es n,
+      either e.1.worker n (ltb e.1.worker n) (eqb e.1.worker n) refl refl,
+    )
 
 none_below : (es : List Entry) → below 0 es ≡ 0
 none_below [] = refl
@@ -37,7 +43,7 @@ none_below (e ∷ es) =
 
 few_below : (es : List Entry) → ((worker : ℕ) → count_own es worker ≤ most_handles) → (n : ℕ) → below n es ≤ 64 * n
 few_below es few zero = omega (arith, none_below es)
-few_below es few (suc n) = 
+few_below es few (suc n) =
     let same : below (suc n) es ≡ below (n + 1) es = ap (λ m. below m es) (omega arith) in
     omega (arith, same, one_more es n, few_below es few n, few n)
 

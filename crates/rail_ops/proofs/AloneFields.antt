@@ -1,14 +1,13 @@
 -- The fields of the rails of a board: where they lie, and what is read of them after a put.
-use Rattle.std.proofs.Common.{◌≡◌, ◌≢◌, ◌↔◌, ◌⊎◌, ℕ, ◌<◌, Bool, true, false, cond, eqb, List, [], ◌∷◌, Option, Some, None, refl, sym, ap, subst, ◌∙◌, inl, inr, arith, length, get_or, slice_get, slice_set, eq-eqb}
+use Rattle.std.proofs.Common.{◌≡◌, ◌≢◌, ◌⊎◌, ℕ, ◌<◌, List, Option, Some, None, refl, sym, subst, ◌∙◌, inl, inr, arith, length, slice_get}
 use Rattle.std.specs.Prelude.{Contains, IfSome}
 use Rattle.std.specs.Option.{option_and_then, option_map_or}
 use Rattle.std.proofs.lemmas.Bool.{cases_eq}
 use Rattle.std.proofs.lemmas.Option.{same_Some, slice_get_within, get_or_from_slice_get}
 use Rattle.chip_regs.specs.declared.field.Field.{Field}
-use Rattle.chip_regs.specs.Field.{FitsField, SharesBit}
+use Rattle.chip_regs.specs.Field.{FitsField}
 use Rattle.chip_regs.specs.Registers.{CanPut, field_of, with_field}
 use Rattle.chip_regs.proofs.Fields.{IsImage-with_field, length-with_field, field_of-with_field_apart}
-use Rattle.board_graph.specs.Graph.{count_of}
 use Rattle.board_graph.specs.Sets.{rails_of}
 use Rattle.board_graph.proofs.Growth.{is_rail, from_taken}
 use Rattle.board.specs.declared.board.Board.{Board}

@@ -1,5 +1,5 @@
 -- The books of all rails as they are made: first without handles, then with each handle on its rail.
-use Rattle.std.proofs.Common.{◌≡◌, ◌≢◌, ◌⊎◌, ℕ, zero, suc, ◌+◌, ◌<◌, ◌≤◌, ◌^◌, Bool, true, false, cond, ◌&&◌, eqb, List, [], ◌∷◌, ◌++◌, refl, sym, ap, subst, ◌∙◌, inl, inr, arith, length, get_or, map, filter, take, slice_set, eq-eqb, All, AllPairs, length-take-le}
+use Rattle.std.proofs.Common.{◌≡◌, ◌⊎◌, ℕ, ◌+◌, ◌<◌, ◌≤◌, ◌^◌, Bool, true, false, cond, eqb, List, [], ◌∷◌, ◌++◌, refl, sym, ap, subst, ◌∙◌, inl, inr, arith, length, get_or, map, filter, take, slice_set, eq-eqb, All, AllPairs, length-take-le}
 use Rattle.std.specs.Prelude.{slice_index_or, slice_index, bytes_eq}
 use Rattle.std.proofs.lemmas.Bool.{eqb-true, and_parts, cases_order, false≢true}
 use Rattle.std.proofs.lemmas.List.{length-set, length-map, length_push, take_more, get_or-take, get_or-set_same, get_or-set_other, get_or_append_left, get_or_at, get_or_read}
@@ -9,7 +9,6 @@ use Rattle.std.proofs.lemmas.List.Sums.{length-filter, count_by-le-length}
 use Rattle.board.specs.declared.event.Event.{Event}
 use Rattle.use_counts.specs.Book.{Book}
 use Rattle.use_counts.specs.Uses.{is_row_of}
-use Rattle.use_counts.specs.declared.handle_row.HandleRow.{HandleRow}
 use Rattle.plain_board.specs.Handles.{Entry, rows_on}
 use Rattle.plain_board.specs.Inv.{StandApart}
 use Rattle.rail_ops.specs.Inside.Alone.{AreBooks, blank, no_book, with_rows}

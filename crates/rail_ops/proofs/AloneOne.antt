@@ -1,5 +1,5 @@
 -- The plain board that all rails show, part by part.
-use Rattle.std.proofs.Common.{◌≡◌, ℕ, ◌+◌, ◌<◌, Bool, true, false, List, [], ◌∷◌, Some, refl, sym, ap, subst, ◌∙◌, arith, length, get_or, map, slice_get}
+use Rattle.std.proofs.Common.{◌≡◌, ℕ, ◌<◌, Bool, false, List, [], Some, sym, ap, subst, ◌∙◌, arith, length, get_or, map}
 use Rattle.std.specs.Prelude.{Contains, slice_index_or}
 use Rattle.std.specs.Option.{option_map_or}
 use Rattle.std.proofs.lemmas.Bool.{or_right}

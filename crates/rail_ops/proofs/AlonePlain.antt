@@ -1,29 +1,14 @@
 -- There is but one plain board that all rails show with what is in no field.
-use Rattle.std.proofs.Common.{◌≡◌, ◌≢◌, ◌⊎◌, ℕ, zero, suc, ◌+◌, ◌<◌, ◌≤◌, Bool, true, false, cond, eqb, ltb, List, [], ◌∷◌, ◌++◌, Option, Some, None, refl, sym, ap, subst, ◌∙◌, inl, inr, arith, length, get_or, map, filter, flat_map, slice_get, eq-eqb, All, AllPairs}
-use Rattle.std.specs.Prelude.{Contains, slice_index_or}
-use Rattle.std.specs.Option.{option_map_or}
-use Rattle.std.specs.List.{enumerate_from, range_with_len}
-use Rattle.std.proofs.lemmas.Bool.{eqb-true, ltb-true, lt-ltb, le-ltb, cases_order, cases_eq, false≢true}
-use Rattle.std.proofs.lemmas.List.{length-map, ext_get_or, get_or-map}
+use Rattle.std.proofs.Common.{◌≡◌, ◌≢◌, ℕ, zero, suc, ◌+◌, ◌<◌, ◌≤◌, Bool, true, false, cond, eqb, ltb, List, [], ◌∷◌, ◌++◌, refl, sym, ap, ◌∙◌, arith, length, get_or, map, filter, flat_map, eq-eqb, All, AllPairs}
+use Rattle.std.specs.Prelude.{slice_index_or}
+use Rattle.std.specs.List.{enumerate_from}
+use Rattle.std.proofs.lemmas.Bool.{eqb-true, ltb-true, lt-ltb, le-ltb, false≢true}
 use Rattle.std.proofs.lemmas.List.Elements.{All-head, All-tail, All-filter, filter_passes}
 use Rattle.std.proofs.lemmas.List.Kept.{AllPairs-filter}
-use Rattle.chip_regs.specs.declared.field.Field.{Field}
-use Rattle.chip_regs.specs.Registers.{field_of}
-use Rattle.board_graph.specs.Graph.{count_of}
-use Rattle.board_graph.specs.Sets.{rails_of, guard_of, is_guard_of}
-use Rattle.board_graph.proofs.Growth.{from_taken, is_rail, kept}
-use Rattle.board_graph.proofs.SetLaws.{block_is}
-use Rattle.board.specs.declared.board.Board.{Board}
-use Rattle.board.specs.declared.part.Part.{Part}
-use Rattle.board.specs.declared.rail_id.RailId.{RailId}
-use Rattle.board.specs.Fields.{field_at}
-use Rattle.board.specs.Valid.{IsValid}
 use Rattle.use_counts.specs.Book.{Book}
 use Rattle.use_counts.specs.declared.handle_row.HandleRow.{HandleRow}
-use Rattle.plain_board.specs.declared.plain.Plain.{Plain}
 use Rattle.plain_board.specs.Handles.{Entry, rows_on}
-use Rattle.plain_board.specs.Inv.{StandApart, Inv}
-use Rattle.rail_ops.specs.Inside.Alone.{entries_of, handles_in, no_book}
+use Rattle.rail_ops.specs.Inside.Alone.{entries_of, no_book}
 
 -- handles by rising rails
 abbrev Rises : List Entry → Type 0

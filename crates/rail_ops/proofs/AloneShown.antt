@@ -1,18 +1,16 @@
 -- What all rails show, once they are made of a plain board.
-use Rattle.std.proofs.Common.{◌≡◌, ℕ, zero, suc, ◌<◌, Bool, true, false, List, [], ◌∷◌, Some, refl, sym, ap, subst, ◌∙◌, length, slice_get}
+use Rattle.std.proofs.Common.{◌≡◌, ℕ, zero, suc, ◌<◌, Bool, false, List, [], ◌∷◌, refl, sym, ap, subst, ◌∙◌, length, slice_get}
 use Rattle.std.specs.Prelude.{slice_index_or, slice_index, unwrap_or}
 use Rattle.std.specs.Option.{option_map_or}
 use Rattle.chip_regs.specs.Registers.{field_of}
 use Rattle.board_graph.specs.Sets.{rails_of}
 use Rattle.board.specs.declared.board.Board.{Board}
-use Rattle.board.specs.declared.event.Event.{Event}
 use Rattle.board.specs.Valid.{IsValid}
 use Rattle.use_counts.specs.Book.{Book}
 use Rattle.use_counts.specs.declared.handle_row.HandleRow.{HandleRow}
 use Rattle.plain_board.specs.declared.plain.Plain.{Plain}
 use Rattle.plain_board.specs.Handles.{rows_on}
 use Rattle.plain_board.specs.Inv.{Inv}
-use Rattle.plain_board.specs.Seen.{book}
 use Rattle.rail_ops.specs.Sight.{Shows, Hands}
 use Rattle.rail_ops.specs.Inside.Alone.{AreBooks, AreVotes, blank, no_book, number_at, with_rows}
 use Rattle.rail_ops.specs.Inside.AloneLaws.{rail_within}

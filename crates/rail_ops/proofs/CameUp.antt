@@ -1,14 +1,14 @@
 -- Rails that come up one after another, as the worker sees them.
-use Rattle.std.proofs.Common.{◌≡◌, ◌≢◌, ℕ, zero, suc, ◌+◌, ◌<◌, ◌≤◌, ◌&&◌, ◌||◌, Bool, true, false, not, cond, List, [], ◌∷◌, ◌++◌, Option, Some, None, inl, inr, refl, sym, ap, ◌∙◌, subst, arith, map, length, take, reverse, eqb, get_or, slice_get, sum_by, All, AllPairs}
-use Rattle.std.specs.Prelude.{Contains, IfSome, filter, flat_map, is_some, option_map, option_and_then}
+use Rattle.std.proofs.Common.{◌≡◌, ◌≢◌, ℕ, zero, suc, ◌+◌, ◌≤◌, ◌&&◌, ◌||◌, Bool, true, false, not, cond, List, [], ◌∷◌, ◌++◌, Option, Some, None, refl, sym, ap, ◌∙◌, subst, arith, map, length, take, reverse, eqb, get_or, slice_get, sum_by, All}
+use Rattle.std.specs.Prelude.{IfSome, flat_map, is_some, option_map, option_and_then}
 use Rattle.std.specs.List.{list_any}
 use Rattle.std.specs.Option.{option_map_or}
-use Rattle.std.proofs.lemmas.Bool.{cases_eq, eqb-true, both_ways, not-false}
+use Rattle.std.proofs.lemmas.Bool.{eqb-true}
 use Rattle.std.proofs.lemmas.List.{length-map, length-append, length-reverse, map-append, reverse-append, take-append-le, take_all, append-nil}
 use Rattle.std.proofs.lemmas.List.Elements.{All-head, All-tail, filter-append}
 use Rattle.std.proofs.lemmas.List.Folds.{list_any-append}
 use Rattle.std.proofs.lemmas.List.Sums.{count_by-le-length, length-filter, sum_by-cons}
-use Rattle.std.proofs.lemmas.Option.{same_Some, slice_get-get_or, slice_get_within}
+use Rattle.std.proofs.lemmas.Option.{same_Some, slice_get-get_or}
 use Rattle.reg_outside.specs.Bus.{Bus, Updates}
 use Rattle.reg_outside.specs.Told.{with_more}
 use Rattle.reg_outside.proofs.ToldFacts.{with_more-with_more}
@@ -27,7 +27,7 @@ use Rattle.rail_law.specs.Moves.{Move, after_moves, update_of_field, writes_of}
 use Rattle.plain_board.specs.declared.plain.Plain.{Plain}
 use Rattle.plain_board.specs.Answer.{enable_delay, enable_time}
 use Rattle.plain_board.specs.Plan.{switch, upward}
-use Rattle.plain_board.specs.Switched.{is_off, off_rails, is_moved, AreSwitched}
+use Rattle.plain_board.specs.Switched.{is_off, off_rails, is_moved}
 use Rattle.plain_board.specs.Untied.{HoldFields}
 use Rattle.plain_board.specs.Update.{update_of}
 use Rattle.plain_board.proofs.KeptUse.{sum_by_same}
@@ -38,7 +38,7 @@ use Rattle.rail_ops.specs.Taking.{Counts, Tells, Tried, updates_of}
 use Rattle.rail_ops.specs.Inside.Raised.{raised, SwitchesOn}
 use Rattle.rail_ops.specs.Inside.Rising.{rises, WentUp, CameUp, IsSeen}
 use Rattle.rail_ops.proofs.Raised.{raised_nil, raised_append, more_told_rails}
-use Rattle.rail_ops.proofs.Tries.{tried_then, tried_none}
+use Rattle.rail_ops.proofs.Tries.{tried_then}
 use Rattle.rail_ops.proofs.Exactly.{shows_same, tells_nothing}
 
 -- the moves of a rail and those above it: first those above, then the rail, if it is off

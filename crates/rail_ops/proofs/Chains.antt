@@ -1,11 +1,11 @@
 -- What a worker that is ready for a call on a rail's chain holds: the chain, and all that guards it.
-use Rattle.std.proofs.Common.{◌≡◌, ◌≢◌, ℕ, zero, suc, ◌+◌, ◌<◌, ◌≤◌, ◌⊎◌, true, List, [], ◌∷◌, Option, Some, None, inl, inr, refl, sym, ap, ◌∙◌, subst, arith, get_or, length, All, AllPairs}
+use Rattle.std.proofs.Common.{◌≡◌, ℕ, zero, suc, ◌<◌, List, Option, Some, None, inl, inr, refl, sym, ◌∙◌, subst, get_or, length, All}
 use Rattle.std.specs.Prelude.{Contains}
 use Rattle.std.proofs.lemmas.Option.{same_Some}
 use Rattle.std.proofs.lemmas.List.Elements.{All-cons, All-nil}
 use Rattle.board_graph.specs.declared.graph.Graph.{Graph}
-use Rattle.board_graph.specs.Graph.{AreOneBlock, Supplies, count_of, supply_at}
-use Rattle.board_graph.specs.Sets.{HoldsGuards, IsLeastWith, closure, guard_of, is_guard_of, rails_of}
+use Rattle.board_graph.specs.Graph.{supply_at}
+use Rattle.board_graph.specs.Sets.{HoldsGuards, IsLeastWith, closure, is_guard_of, rails_of}
 use Rattle.board_graph.proofs.SetLaws.{closure_is_least_lem, guard_cases}
 use Rattle.board.proofs.BoardGraph.{sound_graph}
 use Rattle.board.specs.declared.board.Board.{Board}

@@ -1,14 +1,11 @@
 -- Calls that make no move, from how they are answered.
 use Rattle.std.proofs.Common.{◌≡◌, ℕ, Bool, true, false, List, [], Option, Some, None, refl, sym, ap, subst, ◌∙◌}
-use Rattle.std.specs.Prelude.{Contains, if◌then◌else◌, IfSome}
-use Rattle.reg_outside.specs.Bus.{Bus, Updates}
-use Rattle.reg_outside.specs.Told.{with_more}
+use Rattle.std.specs.Prelude.{Contains, if◌then◌else◌}
+use Rattle.reg_outside.specs.Bus.{Bus}
 use Rattle.reg_outside.proofs.ToldFacts.{with_more-nil}
 use Rattle.board.specs.declared.board.Board.{Board}
-use Rattle.board.specs.declared.part.Part.{Part}
-use Rattle.chip_regs.specs.declared.field.Field.{Field}
 use Rattle.board.specs.Fields.{field_at}
-use Rattle.rail_law.specs.Moves.{Move, writes_of}
+use Rattle.rail_law.specs.Moves.{writes_of}
 use Rattle.rail_state.specs.Sight.{IsGuarded}
 use Rattle.rows.specs.declared.answer.Answer.{Answer}
 use Rattle.rows.specs.declared.answer.Answer.TheVariants.{Fault}
@@ -23,7 +20,7 @@ use Rattle.plain_board.specs.Seen.{book}
 use Rattle.plain_board.specs.Untied.{HoldFields}
 use Rattle.rail_ops.specs.Exact.{IsExact}
 use Rattle.rail_ops.specs.Sight.{Hands, Place, placed, ShowsSame, Shows, MayBe}
-use Rattle.rail_ops.specs.Taking.{Counts, Tells, Took, updates_of}
+use Rattle.rail_ops.specs.Taking.{Tells, updates_of}
 use Rattle.rail_ops.proofs.Tries.{tried_none}
 
 -- an answer that is no fault tells no stop

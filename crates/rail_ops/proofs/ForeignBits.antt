@@ -1,17 +1,15 @@
 -- Registers bit by bit: what a put of 0 and the clearing of fields leave, and when two images are one.
-use Rattle.std.proofs.Common.{◌≡◌, ◌≢◌, ℕ, ◌+◌, ◌*◌, ◌/◌, ◌%◌, ◌^◌, ◌<◌, min, Bool, true, false, cond, ◌&&◌, ◌||◌, eqb, List, [], ◌∷◌, bit_and, refl, sym, ap, subst, ◌∙◌, inl, inr, arith, length, get_or, eq-eqb, All}
-use Rattle.std.specs.Prelude.{Contains, slice_index_or}
+use Rattle.std.proofs.Common.{◌≡◌, ℕ, ◌*◌, ◌^◌, ◌<◌, Bool, true, false, ◌&&◌, ◌||◌, eqb, List, [], ◌∷◌, bit_and, refl, sym, ap, subst, ◌∙◌, inl, inr, arith, length, get_or, eq-eqb, All}
 use Rattle.std.specs.Int.{bit_at}
 use Rattle.std.specs.List.{list_any}
 use Rattle.std.proofs.lemmas.Bool.{eqb-true, and_parts, cases_eq, false≢true}
 use Rattle.std.proofs.lemmas.List.{ext_get_or}
 use Rattle.std.proofs.lemmas.List.Elements.{All-head, All-tail, All-weaker}
 use Rattle.std.proofs.lemmas.Nat.Bits.{bit_at_and, bit_at-lt, bit_at-zero, bit_at-pow_same, and_pow, same_from_bits}
-use Rattle.rail_state.proofs.Members.{first_or_behind}
 use Rattle.chip_regs.specs.Width.{chip_registers}
 use Rattle.chip_regs.specs.declared.field.Field.{Field}
-use Rattle.chip_regs.specs.Field.{IsField, FitsField}
-use Rattle.chip_regs.specs.Registers.{IsImage, HasChip, CanPut, chip_of, byte_of, field_of, with_field}
+use Rattle.chip_regs.specs.Field.{IsField}
+use Rattle.chip_regs.specs.Registers.{IsImage, HasChip, CanPut, byte_of, field_of, with_field}
 use Rattle.chip_regs.proofs.Fields.{and-field, and-with_field_same, and-with_field_apart, field_of-bits, IsImage-with_field, length-with_field}
 use Rattle.rail_ops.specs.Foreign.{cleared}
 

@@ -1,8 +1,7 @@
 -- What is in no field of a board: no put into a field changes it, and with the fields it is all that there is.
-use Rattle.std.proofs.Common.{◌≡◌, ◌≢◌, ℕ, zero, suc, ◌<◌, Bool, true, false, List, [], ◌∷◌, Option, Some, None, refl, sym, ap, subst, ◌∙◌, inl, inr, arith, length, get_or, slice_get, All}
-use Rattle.std.specs.Prelude.{Contains, filter_map, flat_map}
+use Rattle.std.proofs.Common.{◌≡◌, ℕ, Bool, true, false, List, Some, refl, sym, ap, subst, ◌∙◌, arith, length, get_or, All}
+use Rattle.std.specs.Prelude.{Contains}
 use Rattle.std.specs.Option.{option_and_then}
-use Rattle.std.specs.List.{list_any}
 use Rattle.std.proofs.lemmas.Bool.{false≢true}
 use Rattle.std.proofs.lemmas.List.Elements.{All-weaker, All-contains_itself}
 use Rattle.std.proofs.lemmas.List.Folds.{list_any_at, Any-from_list_any}
@@ -17,7 +16,6 @@ use Rattle.chip_regs.proofs.Fields.{IsImage-with_field, length-with_field}
 use Rattle.board.specs.declared.board.Board.{Board}
 use Rattle.board.specs.declared.part.Part.{Part}
 use Rattle.board.specs.declared.part.Part.TheVariants.{Selector, Enable, ModePart, SuspendEnable, SuspendSelector}
-use Rattle.board.specs.declared.rail.Rail.{Rail}
 use Rattle.board.specs.Fields.{field_at}
 use Rattle.board.specs.Rail.{part_field}
 use Rattle.board.specs.Valid.{IsValid}

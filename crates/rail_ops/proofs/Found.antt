@@ -1,5 +1,5 @@
 -- The handle of a worker's name, and its rail, on a plain board that may be before the worker.
-use Rattle.std.proofs.Common.{◌≡◌, ℕ, zero, suc, ◌<◌, ◌≤◌, Bool, true, false, cond, List, [], ◌∷◌, Option, Some, None, refl, sym, ap, subst, ◌∙◌, arith, length, slice_get}
+use Rattle.std.proofs.Common.{◌≡◌, ℕ, zero, suc, ◌<◌, ◌≤◌, Bool, true, false, cond, List, [], ◌∷◌, Option, Some, None, refl, sym, subst, ◌∙◌, arith, length, slice_get}
 use Rattle.std.specs.Prelude.{All, find, option_map}
 use Rattle.std.proofs.lemmas.List.Elements.{All-head, All-tail}
 use Rattle.std.proofs.lemmas.Option.{same_Some}
@@ -7,7 +7,7 @@ use Rattle.board.specs.declared.board.Board.{Board}
 use Rattle.board.specs.declared.rail.Rail.{Rail}
 use Rattle.use_counts.specs.Uses.{rail_named}
 use Rattle.plain_board.specs.declared.plain.Plain.{Plain}
-use Rattle.plain_board.specs.Handles.{Entry, is_own, open_of, own}
+use Rattle.plain_board.specs.Handles.{Entry, is_own, open_of}
 use Rattle.plain_board.specs.Inv.{IsSoundEntry}
 use Rattle.plain_board.specs.Refusals.{most_enables}
 use Rattle.rail_ops.specs.Sight.{Place, MayBe}

@@ -1,6 +1,6 @@
 -- An enable of an open handle, from how the rails of its chain came up.
-use Rattle.std.proofs.Common.{◌≡◌, ◌≢◌, ℕ, zero, suc, ◌+◌, ◌<◌, ◌≤◌, ◌&&◌, ◌==◌, Bool, true, false, not, cond, List, [], ◌∷◌, ◌++◌, Option, Some, None, inl, inr, refl, sym, ap, ◌∙◌, subst, arith, map, filter, take, length, reverse, slice_get, slice_set, All}
-use Rattle.std.specs.Prelude.{Contains, IfSome, is_some, position, if◌then◌else◌, option_map, find, is_none, option_and_then, unwrap_or}
+use Rattle.std.proofs.Common.{◌≡◌, ℕ, zero, suc, ◌+◌, ◌<◌, ◌≤◌, ◌&&◌, ◌==◌, Bool, true, false, not, cond, List, [], ◌∷◌, Option, Some, None, inl, inr, refl, sym, ap, ◌∙◌, subst, arith, map, filter, take, length, reverse, slice_get, slice_set}
+use Rattle.std.specs.Prelude.{Contains, IfSome, is_some, position, if◌then◌else◌, option_map, is_none, option_and_then, unwrap_or}
 use Rattle.std.specs.List.{enumerate_from}
 use Rattle.std.specs.Option.{option_map_or}
 use Rattle.std.proofs.lemmas.Bool.{cases_eq, eq-eqb}
@@ -9,7 +9,6 @@ use Rattle.std.proofs.lemmas.Option.{same_Some, slice_get-map, slice_get_within}
 use Rattle.arrayvec.specs.ArrayString.{ArrayString}
 use Rattle.reg_outside.specs.Bus.{Bus}
 use Rattle.load_modes.specs.Modes.{mode_of_load}
-use Rattle.board_graph.specs.Graph.{supply_at}
 use Rattle.board.specs.declared.board.Board.{Board}
 use Rattle.board.specs.declared.part.Part.TheVariants.{Enable as EnableBit}
 use Rattle.board.specs.declared.rail.Rail.{Rail}
@@ -30,8 +29,8 @@ use Rattle.use_counts.specs.declared.handle_row.HandleRow.{HandleRow}
 use Rattle.plain_board.specs.declared.plain.Plain.{Plain}
 use Rattle.plain_board.specs.Answer.{answer, answered, changed_rails, enable_delay, fault, no_write, plan, planned, settled, with_changed}
 use Rattle.plain_board.specs.Counts.{load_sum}
-use Rattle.plain_board.specs.Handles.{Entry, own, open_of, rows_on, with_row}
-use Rattle.plain_board.specs.History.{is_fault, made_of, stop_of, IsWithinPlan}
+use Rattle.plain_board.specs.Handles.{rows_on, with_row}
+use Rattle.plain_board.specs.History.{is_fault, IsWithinPlan}
 use Rattle.plain_board.specs.Inv.{Inv}
 use Rattle.plain_board.specs.Moved.{after_first, uv_at}
 use Rattle.plain_board.specs.Plan.{chain, changed, moves_of_call, one_more, switch}
@@ -43,7 +42,7 @@ use Rattle.plain_board.proofs.HandleCallLaws.{handle_calls_keep_fields_lem, hand
 use Rattle.plain_board.proofs.HandleMoves.{enable_plan}
 use Rattle.plain_board.proofs.Switches.{AreSwitchedOnly, nothing_switched, uv_kept}
 use Rattle.rail_ops.specs.Exact.{IsExact, IsLeft}
-use Rattle.rail_ops.specs.Sight.{Hands, Knows, MayBe, Place, placed, Shows, ShowsSame}
+use Rattle.rail_ops.specs.Sight.{Hands, Knows, MayBe, placed, Shows, ShowsSame}
 use Rattle.rail_ops.specs.Taking.{Tells, updates_of}
 use Rattle.rail_ops.specs.Inside.Enabling.{enable_refusal}
 use Rattle.rail_ops.specs.Inside.Raised.{ChangesBook, raised}

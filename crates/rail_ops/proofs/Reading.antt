@@ -1,6 +1,6 @@
 -- Calls that only look: what they are answered of an open handle, and of a name that isn't open.
 use Rattle.std.proofs.Common.{◌≡◌, ℕ, ◌<◌, Bool, true, List, [], ◌∷◌, Option, Some, None, refl, sym, ap, subst, ◌∙◌, length, slice_get, eqb}
-use Rattle.std.specs.Prelude.{Contains, find, option_map}
+use Rattle.std.specs.Prelude.{find, option_map}
 use Rattle.std.specs.Option.{option_and_then, option_map_or}
 use Rattle.arrayvec.specs.ArrayString.{ArrayString}
 use Rattle.chip_regs.specs.declared.field.Field.{Field}
@@ -21,7 +21,7 @@ use Rattle.use_counts.specs.Uses.{rail_named}
 use Rattle.rail_state.specs.Sight.{IsGuarded}
 use Rattle.plain_board.specs.declared.plain.Plain.{Plain}
 use Rattle.plain_board.specs.Handles.{Entry, open_of, for_open, on_rail}
-use Rattle.plain_board.specs.Refusals.{Reason, refusal}
+use Rattle.plain_board.specs.Refusals.{Reason}
 use Rattle.plain_board.specs.Answer.{answer, answered}
 use Rattle.rail_ops.specs.Sight.{Place, MayBe}
 use Rattle.rail_ops.proofs.Found.{element, found, not_found}

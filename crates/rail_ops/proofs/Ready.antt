@@ -1,12 +1,12 @@
 -- What a worker that is ready for a call may read.
-use Rattle.std.proofs.Common.{◌≡◌, ℕ, zero, suc, ◌+◌, ◌<◌, ◌||◌, true, List, [], ◌∷◌, Some, refl, sym, ap, subst, ◌∙◌, arith, length, map, slice_get}
+use Rattle.std.proofs.Common.{◌≡◌, ℕ, zero, suc, ◌+◌, ◌<◌, List, [], Some, refl, sym, ap, subst, ◌∙◌, arith, length, slice_get}
 use Rattle.std.specs.Prelude.{Contains}
 use Rattle.std.specs.List.{range_with_len}
 use Rattle.std.specs.Option.{option_map, option_map_or}
 use Rattle.std.proofs.lemmas.Bool.{or_right}
 use Rattle.std.proofs.lemmas.List.{length-map}
 use Rattle.std.proofs.lemmas.Option.{slice_get-map}
-use Rattle.board_graph.specs.Graph.{AreOneBlock, count_of}
+use Rattle.board_graph.specs.Graph.{count_of}
 use Rattle.board_graph.specs.Sets.{guard_of, is_guard_of, rails_of}
 use Rattle.board_graph.proofs.SetLaws.{block_is}
 use Rattle.board.specs.declared.board.Board.{Board}
@@ -20,7 +20,7 @@ use Rattle.plain_board.specs.declared.plain.Plain.{Plain}
 use Rattle.plain_board.specs.Handles.{own}
 use Rattle.plain_board.specs.Seen.{needs, needs_of_open, alone}
 use Rattle.rail_ops.specs.Sight.{Place, MayBe, IsReady}
-use Rattle.rail_ops.proofs.Found.{Found, found, element}
+use Rattle.rail_ops.proofs.Found.{found, element}
 
 in_range : (from n k : ℕ) → k < n → Contains (range_with_len from n) (from + k)
 in_range from zero k within = absurd (omega (arith, within))

@@ -1,14 +1,13 @@
 -- What the worker sees after a rail was switched on is of the plain board after that move.
-use Rattle.std.proofs.Common.{◌≡◌, ◌≢◌, ◌⊎◌, ℕ, zero, suc, ◌+◌, ◌<◌, ◌&&◌, Bool, true, false, cond, List, [], ◌∷◌, ◌++◌, Option, Some, None, inl, inr, refl, sym, ap, ◌∙◌, subst, arith, map, length, eqb, slice_get}
-use Rattle.std.specs.Prelude.{Contains, slice_index_or, flat_map, option_and_then, is_none}
+use Rattle.std.proofs.Common.{◌≡◌, ◌≢◌, ◌⊎◌, ℕ, zero, suc, ◌+◌, ◌<◌, ◌&&◌, Bool, true, false, cond, List, [], ◌∷◌, ◌++◌, Option, Some, None, inl, inr, refl, sym, ap, ◌∙◌, subst, arith, length, eqb, slice_get}
+use Rattle.std.specs.Prelude.{Contains, slice_index_or, flat_map, option_and_then}
 use Rattle.std.specs.Option.{option_map}
-use Rattle.std.proofs.lemmas.Bool.{cases_eq, cases_lt, eq-eqb, eqb-true, both_ways, not-true}
+use Rattle.std.proofs.lemmas.Bool.{cases_eq, cases_lt, eq-eqb, eqb-true, both_ways}
 use Rattle.std.proofs.lemmas.List.{append-nil, get_or_past}
 use Rattle.std.proofs.lemmas.Option.{same_Some, slice_get-map, slice_get_within}
 use Rattle.chip_regs.specs.declared.field.Field.{Field}
 use Rattle.chip_regs.specs.Registers.{CanPut, field_of, with_field}
 use Rattle.chip_regs.proofs.Fields.{field_of-with_field, field_of-with_field_apart}
-use Rattle.board_graph.specs.declared.graph.Graph.{Graph}
 use Rattle.board_graph.specs.Graph.{supply_at}
 use Rattle.board.specs.declared.board.Board.{Board}
 use Rattle.board.specs.declared.event.Event.{Event}
@@ -21,7 +20,7 @@ use Rattle.board.specs.Desc.{IsPlaced}
 use Rattle.board.specs.Fields.{field_at}
 use Rattle.board.specs.Rail.{is_on, part_field}
 use Rattle.board.specs.Valid.{IsValid, IsSoundRail, supply_of}
-use Rattle.rail_law.specs.Moves.{Move, written}
+use Rattle.rail_law.specs.Moves.{written}
 use Rattle.rail_state.specs.Sight.{IsGuarded}
 use Rattle.use_counts.specs.Book.{Book}
 use Rattle.plain_board.specs.declared.plain.Plain.{Plain}

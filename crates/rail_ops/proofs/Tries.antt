@@ -1,8 +1,7 @@
 -- What a wire with a plan has tried, some updates more at a time.
-use Rattle.std.proofs.Common.{◌≡◌, ℕ, ◌+◌, ◌<◌, ◌≤◌, Bool, true, false, Option, Some, None, refl, sym, ap, ◌∙◌, subst, inl, inr, arith, zero, suc, List, [], ◌∷◌, ◌++◌, length, take}
-use Rattle.std.specs.Prelude.{IfSome, not}
-use Rattle.std.proofs.lemmas.Bool.{cases_lt, false_from_ne_true, and_from, and_parts}
-use Rattle.std.proofs.lemmas.List.{length-take-le}
+use Rattle.std.proofs.Common.{◌≡◌, ℕ, ◌+◌, ◌<◌, ◌≤◌, true, false, Option, Some, None, refl, sym, ap, ◌∙◌, subst, inl, inr, arith}
+use Rattle.std.specs.Prelude.{IfSome}
+use Rattle.std.proofs.lemmas.Bool.{cases_lt, false_from_ne_true}
 use Rattle.reg_outside.specs.Count.{raised, count_end}
 use Rattle.reg_outside.specs.Plan.{Plan, refuses, HasSmallNumbers, RefusesNoneOfNext, next_plan, IsPlanned}
 use Rattle.reg_outside.proofs.CountFacts.{raised-raised}

@@ -1,34 +1,31 @@
 -- A rail whose supply is held and on may be switched on, and what that changes before the worker.
-use Rattle.std.proofs.Common.{◌≡◌, ◌≢◌, ℕ, ◌+◌, ◌<◌, ◌^◌, Bool, true, List, [], ◌∷◌, ◌++◌, Option, Some, None, refl, sym, ap, ◌∙◌, subst, arith, length, eqb, slice_get}
+use Rattle.std.proofs.Common.{◌≡◌, ℕ, ◌+◌, ◌<◌, ◌^◌, List, [], ◌∷◌, ◌++◌, Option, Some, None, refl, sym, ap, ◌∙◌, subst, arith, length, eqb, slice_get}
 use Rattle.std.specs.Prelude.{Contains, IfSome, option_map, option_and_then}
 use Rattle.std.proofs.lemmas.Option.{slice_get_within}
 use Rattle.chip_regs.specs.declared.field.Field.{Field}
 use Rattle.chip_regs.specs.Field.{IsField, FitsField}
-use Rattle.chip_regs.specs.Registers.{IsImage, with_field}
-use Rattle.board_graph.specs.Graph.{supply_at, Supplies}
+use Rattle.board_graph.specs.Graph.{supply_at}
 use Rattle.board_graph.proofs.SetLaws.{supply_rail}
 use Rattle.board.proofs.BoardGraph.{sound_graph}
 use Rattle.board.specs.declared.board.Board.{Board}
 use Rattle.board.specs.declared.event.Event.TheVariants.{Enable as TellsEnable}
-use Rattle.board.specs.declared.part.Part.{Part}
 use Rattle.board.specs.declared.part.Part.TheVariants.{Enable as EnableBit}
 use Rattle.board.specs.declared.rail.Rail.{Rail}
 use Rattle.board.specs.declared.rail_id.RailId.{RailId}
 use Rattle.board.specs.Desc.{IsPlaced}
 use Rattle.board.specs.Fields.{field_at}
-use Rattle.board.specs.Rail.{is_on, part_field}
-use Rattle.board.specs.Valid.{IsValid, IsSoundRail, supply_of}
+use Rattle.board.specs.Rail.{part_field}
+use Rattle.board.specs.Valid.{IsValid, IsSoundRail}
 use Rattle.rail_law.specs.Law.{Law}
 use Rattle.rail_law.specs.Moves.{written}
-use Rattle.rail_state.specs.Sight.{Look, KeepsLaw, IsGuarded}
+use Rattle.rail_state.specs.Sight.{KeepsLaw}
 use Rattle.use_counts.specs.Book.{Book}
 use Rattle.plain_board.specs.Untied.{IsUntied, HoldFields}
 use Rattle.plain_board.proofs.MovedAlone.{all_at}
 use Rattle.plain_board.proofs.Switches.{nothing_switched, IsSwitching, after_switch, switch_on, law_switched}
 use Rattle.rail_ops.specs.Sight.{Hands}
 use Rattle.rail_ops.specs.Inside.Raised.{SwitchesOn, ChangesBook, RaisesBit, AddsVote}
-use Rattle.rail_ops.specs.Inside.Supplied.{HavePlaces, IsUpheld, HasUpheldSupply}
-use Rattle.rail_ops.proofs.Found.{element}
+use Rattle.rail_ops.specs.Inside.Supplied.{HavePlaces, HasUpheldSupply}
 use Rattle.rail_ops.proofs.Ready.{count_is, guarded}
 use Rattle.rail_ops.proofs.Stepped.{supply_apart, supply_read}
 

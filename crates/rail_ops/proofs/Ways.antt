@@ -1,6 +1,6 @@
 -- The way up from a rail: the rail, and the way up from its supply.
-use Rattle.std.proofs.Common.{◌≡◌, ◌≢◌, ℕ, zero, suc, ◌+◌, ◌-◌, ◌<◌, ◌≤◌, ◌^◌, ◌&&◌, true, List, [], ◌∷◌, Option, Some, None, refl, sym, ap, ◌∙◌, subst, arith, length, slice_get, All, AllPairs}
-use Rattle.std.specs.Prelude.{Contains, IfSome, option_map, count_by}
+use Rattle.std.proofs.Common.{◌≡◌, ◌≢◌, ℕ, zero, suc, ◌-◌, ◌<◌, ◌≤◌, ◌&&◌, true, List, [], ◌∷◌, Option, Some, None, refl, sym, ap, ◌∙◌, subst, arith, length, slice_get, All, AllPairs}
+use Rattle.std.specs.Prelude.{Contains, IfSome, option_map}
 use Rattle.std.proofs.lemmas.List.Elements.{All-head, All-tail}
 use Rattle.std.proofs.lemmas.Option.{same_Some}
 use Rattle.std.proofs.lemmas.List.Sums.{count_by-le-length}
@@ -19,7 +19,7 @@ use Rattle.plain_board.specs.Plan.{upward}
 use Rattle.plain_board.proofs.OwnHandle.{pairs_first, pairs_rest}
 use Rattle.rail_ops.specs.Sight.{Hands, Shows}
 use Rattle.rail_ops.specs.Inside.Rising.{reaches_top, LeadsUp}
-use Rattle.rail_ops.specs.Inside.Supplied.{IsUpheld, HasUpheldSupply}
+use Rattle.rail_ops.specs.Inside.Supplied.{HasUpheldSupply}
 use Rattle.rail_ops.proofs.Stepped.{supply_read}
 use Rattle.rail_ops.proofs.Upheld.{supply_inside, for_supply}
 

@@ -1,22 +1,17 @@
 -- What a call does on a wire and before the worker, worked out by hand, and for each clause what breaks it.
-use Rattle.std.specs.Prelude.{◌≡◌, ◌≢◌, ℕ, ◌<◌, ◌≤◌, Bool, true, false, List, [], ◌∷◌, Option, Some, None}
-use Rattle.std.proofs.Common.{refl, sym, ap, subst, arith}
-use Rattle.std.proofs.lemmas.Bool.{false≢true}
+use Rattle.std.specs.Prelude.{◌≡◌, ℕ, Bool, true, false, List, [], ◌∷◌, Some, None}
+use Rattle.std.proofs.Common.{refl, arith}
 use Rattle.reg_outside.specs.Bus.{Bus, Updates}
-use Rattle.arrayvec.specs.ArrayString.{ArrayString}
-use Rattle.board_graph.proofs.FailsBy.{FailsBy}
 use Rattle.board.specs.declared.write.Write.{Write}
 use Rattle.rows.specs.declared.answer.Answer.{Answer}
 use Rattle.rows.specs.declared.answer.Answer.TheVariants.{Fault, NoHandle, Ok, OkTime}
 use Rattle.rows.specs.declared.call.Call.TheVariants.{Get}
-use Rattle.plain_board.specs.declared.plain.Plain.{Plain}
 use Rattle.plain_board.specs.Plan.{switch}
 use Rattle.plain_board.proofs.Played.{a}
 use Rattle.plain_board.proofs.PlayedBoards.{fork_board, fork_plain}
 use Rattle.rail_ops.specs.Exact.{IsExact, IsLeft}
 use Rattle.rail_ops.specs.Sight.{Place, placed}
 use Rattle.rail_ops.specs.Taking.{Counts, Tells, Took, updates_of}
-use Rattle.rail_ops.proofs.Exactly.{tells_nothing}
 use Rattle.rail_ops.proofs.WorkedSight.{seen_of}
 
 -- the updates that switch the battery on, and then the first buck

@@ -1,22 +1,20 @@
 -- What is shown of a plain board, worked out by hand: a battery, and two bucks that it supplies; the battery and the first buck are held.
-use Rattle.std.specs.Prelude.{◌≡◌, ℕ, ◌<◌, ◌⊎◌, true, false, List, [], ◌∷◌, Some, None, Contains, get_or}
+use Rattle.std.specs.Prelude.{◌≡◌, ℕ, ◌<◌, ◌⊎◌, false, [], ◌∷◌, None, Contains, get_or}
 use Rattle.std.specs.Option.{option_map_or}
 use Rattle.std.proofs.Common.{zero, suc, refl, sym, ap, subst, arith, inl, inr}
-use Rattle.std.proofs.lemmas.Bool.{false≢true}
 use Rattle.chip_regs.specs.Registers.{byte_of, field_of}
 use Rattle.board_graph.proofs.FailsBy.{FailsBy}
 use Rattle.board.specs.declared.event.Event.TheVariants.{Enable as TellsEnable}
 use Rattle.board.specs.declared.part.Part.{Part}
 use Rattle.board.specs.declared.part.Part.TheVariants.{Selector, Enable as EnableBit}
 use Rattle.board.specs.Fields.{field_at}
-use Rattle.use_counts.specs.declared.handle_row.HandleRow.{HandleRow}
 use Rattle.use_counts.specs.Book.{Book}
 use Rattle.rail_state.specs.Sight.{Look}
 use Rattle.plain_board.specs.declared.plain.Plain.{Plain}
 use Rattle.plain_board.specs.Handles.{Entry}
 use Rattle.plain_board.specs.Seen.{book}
 use Rattle.plain_board.proofs.Played.{a, chip_with, rail}
-use Rattle.plain_board.proofs.PlayedBoards.{always_board, fork_board, fork_plain}
+use Rattle.plain_board.proofs.PlayedBoards.{fork_board, fork_plain}
 use Rattle.rail_ops.specs.Sight.{Hands, Knows, Shows, ShowsSame}
 
 -- what the two rails show of a plain board

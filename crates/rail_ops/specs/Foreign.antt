@@ -1,5 +1,5 @@
 -- What stands in the registers and is in no field of the board's rails.
-use Rattle.std.specs.Prelude.{List, [], ◌∷◌, filter_map, flat_map, fold, ℕ}
+use Rattle.std.specs.Prelude.{List, [], ◌∷◌, filter_map, flat_map, ℕ}
 use Rattle.chip_regs.specs.declared.field.Field.{Field}
 use Rattle.chip_regs.specs.Registers.{with_field}
 use Rattle.board.specs.declared.board.Board.{Board}

@@ -1,5 +1,5 @@
 -- Why another book of one of all rails changes nothing else.
-use Rattle.std.proofs.Common.{◌≡◌, ℕ, ◌<◌, Bool, true, false, cond, eqb, List, refl, sym, ap, subst, ◌∙◌, length, get_or, slice_set, eq-eqb}
+use Rattle.std.proofs.Common.{◌≡◌, ℕ, ◌<◌, Bool, true, false, cond, eqb, List, refl, sym, ap, subst, ◌∙◌, length, slice_set, eq-eqb}
 use Rattle.std.specs.Prelude.{Contains, slice_index_or, if◌then◌else◌, ◌==◌}
 use Rattle.std.proofs.lemmas.Bool.{eqb-true, false≢true}
 use Rattle.std.proofs.lemmas.List.{length-set, length-map, get_or-set_same, get_or-set_other}

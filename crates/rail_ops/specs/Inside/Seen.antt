@@ -1,5 +1,5 @@
 -- What is read off the numbers that are seen in the fields of a rail.
-use Rattle.std.specs.Prelude.{ℕ, Bool, ◌==◌, Option, None, Some, unwrap_or, slice_get}
+use Rattle.std.specs.Prelude.{ℕ, Option, None, Some, unwrap_or, slice_get}
 use Rattle.std.specs.Option.{option_map_or}
 use Rattle.chip_regs.specs.declared.field.Field.{Field}
 use Rattle.board.specs.declared.board.Board.{Board}

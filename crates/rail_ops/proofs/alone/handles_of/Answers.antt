@@ -1,8 +1,8 @@
-use Rattle.std.proofs.Common.{◌≡◌, ℕ, List, ◌++◌, map, refl, sym, ap, ◌∙◌, arith, length}
+use Rattle.std.proofs.Common.{ℕ, List, ◌++◌, map, sym, ap, ◌∙◌, arith}
 use Rattle.use_counts.specs.declared.handle_row.HandleRow.{HandleRow}
 use Rattle.plain_board.specs.Handles.{Entry}
 use Rattle.plain_board.proofs.Enumerated.{flat_map-enumerated}
-use Rattle.rail_ops.specs.Inside.Alone.{entries_of, handles_in}
+use Rattle.rail_ops.specs.Inside.Alone.{entries_of}
 use Rattle.rail_ops.proofs.alone.handles_of.Goals as goal
 
 pub loop-state-preserved : goal.loop-state-preserved

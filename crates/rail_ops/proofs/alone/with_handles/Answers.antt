@@ -1,6 +1,6 @@
-use Rattle.std.proofs.Common.{◌≡◌, ◌<◌, ◌+◌, ℕ, List, refl, sym, ap, subst, ◌∙◌, arith, length, get_or, take, slice_set, rules}
+use Rattle.std.proofs.Common.{◌≡◌, ◌<◌, ◌+◌, ℕ, List, refl, sym, ap, subst, ◌∙◌, arith, length, get_or, take, slice_set}
 use Rattle.std.specs.Prelude.{slice_index_or}
-use Rattle.std.proofs.lemmas.List.{take_all, get_or_read}
+use Rattle.std.proofs.lemmas.List.{take_all}
 use Rattle.std.proofs.lemmas.List.Elements.{All-more, All-nil}
 use Rattle.plain_board.specs.Handles.{Entry}
 use Rattle.rail_ops.specs.Inside.Alone.{AreBooks, no_book, with_rows}
@@ -53,9 +53,9 @@ loop-on-preserved c =
     let its = c.index_mut.ensures.value ∙ ap (λ i. get_or c.loop-on.states.items i c.index_mut.result.now) c.from.ensures in
     record {
       books = subst (λ (i : ℕ). AreBooks (length c.args.states.items) (with_rows c.args.states.items (take (c.loop-on.on-index + 1) c.args.handles.now)) (slice_set c.loop-on.states.items i c.add.new.self)) (sym c.from.ensures)
-      (handed_over c.args.states.items c.loop-on.states.items c.args.handles.now (length c.args.states.items) c.loop-on.on-index c.loop-on-item.result c.index_mut.result.now c.loop-on.invariant.books c.loop-on-test.true c.loop-on-item.is on its c.add.new.self c.in_ok-add.ensures.ok);
+          (handed_over c.args.states.items c.loop-on.states.items c.args.handles.now (length c.args.states.items) c.loop-on.on-index c.loop-on-item.result c.index_mut.result.now c.loop-on.invariant.books c.loop-on-test.true c.loop-on-item.is on its c.add.new.self c.in_ok-add.ensures.ok);
       workers = All-more (λ (entry : Entry). entry.1.worker < 65536) c.args.handles.now c.loop-on.on-index c.loop-on-item.result c.loop-on-test.true c.loop-on.invariant.workers
-      (subst (λ (entry : Entry). entry.1.worker < 65536) c.loop-on-item.is c.has_number.ensures);
+          (subst (λ (entry : Entry). entry.1.worker < 65536) c.loop-on-item.is c.has_number.ensures);
     }
 
 pub returns : goal.returns

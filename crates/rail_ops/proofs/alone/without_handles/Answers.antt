@@ -1,4 +1,4 @@
-use Rattle.std.proofs.Common.{◌≡◌, ℕ, refl, sym, ap, subst, ◌∙◌, length, get_or, List, ◌++◌, ◌∷◌, [], false}
+use Rattle.std.proofs.Common.{◌≡◌, ℕ, sym, ap, subst, ◌∙◌, length, List, ◌++◌, ◌∷◌, [], false}
 use Rattle.std.specs.Prelude.{slice_index, slice_index_or}
 use Rattle.use_counts.specs.Book.{Book}
 use Rattle.rail_ops.specs.Inside.Alone.{AreBooks, blank}

@@ -1,4 +1,4 @@
-use Rattle.std.proofs.Common.{◌≡◌, ◌+◌, ◌-◌, ◌<◌, ◌++◌, ℕ, true, false, List, [], ◌∷◌, Option, Some, None, refl, sym, ap, ◌∙◌, subst, arith, length, slice_get, eqb, All}
+use Rattle.std.proofs.Common.{◌≡◌, ◌++◌, ℕ, List, [], ◌∷◌, Option, Some, sym, ap, ◌∙◌, subst, arith, slice_get, eqb, All}
 use Rattle.std.specs.Prelude.{Contains, option_map}
 use Rattle.std.proofs.lemmas.Option.{slice_get_within}
 use Rattle.board.specs.declared.board.Board.{Board}
@@ -11,7 +11,6 @@ use Rattle.plain_board.specs.Plan.{upward}
 use Rattle.rail_ops.specs.Sight.{shown_by}
 use Rattle.rail_ops.specs.Inside.Rising.{LeadsUp, rises}
 use Rattle.rail_ops.proofs.CameUp.{writes_off, writes_on}
-use Rattle.rail_ops.proofs.Exactly.{shows_same}
 use Rattle.rail_ops.proofs.Ready.{guarded}
 use Rattle.rail_ops.proofs.Upheld.{enable_has_room, enable_is_field}
 use Rattle.rail_ops.proofs.Ways.{above, first_of, leads_above, rest_of, supply_there, way_is, way_long}

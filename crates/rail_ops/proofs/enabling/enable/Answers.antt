@@ -1,30 +1,25 @@
-use Rattle.std.proofs.Common.{◌≡◌, ◌+◌, ◌<◌, ◌≤◌, ◌^◌, ◌==◌, ℕ, Bool, true, false, List, [], ◌∷◌, Option, Some, None, refl, sym, ap, ◌∙◌, subst, arith, length, slice_get, take, All}
+use Rattle.std.proofs.Common.{◌≡◌, ◌<◌, ℕ, false, List, [], Some, refl, sym, ap, ◌∙◌, subst, arith, length, slice_get, take, All}
 use Rattle.std.specs.Prelude.{Contains, IfSome, IsSome, if◌then◌else◌, option_map, position}
 use Rattle.std.proofs.lemmas.Result.{err_from_is_err_and}
 use Rattle.std.proofs.lemmas.Option.{same_Some, slice_get_within}
-use Rattle.reg_outside.specs.Bus.{Bus, told_by}
+use Rattle.reg_outside.specs.Bus.{told_by}
 use Rattle.board_graph.specs.Sets.{closure}
 use Rattle.board.specs.declared.board.Board.{Board}
-use Rattle.board.specs.declared.rail.Rail.{Rail}
 use Rattle.board.specs.declared.rail_id.RailId.{RailId}
-use Rattle.board.specs.declared.write.Write.{Write}
 use Rattle.board.specs.Valid.{IsValid}
-use Rattle.rail_law.specs.Moves.{Move, writes_of}
+use Rattle.rail_law.specs.Moves.{writes_of}
 use Rattle.rail_state.specs.Sight.{IsOwned}
-use Rattle.rows.specs.declared.answer.Answer.{Answer}
 use Rattle.rows.specs.declared.call.Call.TheVariants.{Enable}
 use Rattle.use_counts.specs.Book.{Book}
 use Rattle.use_counts.specs.declared.handle_row.HandleRow.{HandleRow}
 use Rattle.use_counts.specs.Uses.{is_row_of, rail_named}
-use Rattle.plain_board.specs.declared.plain.Plain.{Plain}
 use Rattle.plain_board.specs.Plan.{chain, upward}
-use Rattle.plain_board.specs.Refusals.{refusal}
 use Rattle.plain_board.specs.Untied.{CountsNoLoads, IsUntied}
 use Rattle.rail_ops.specs.declared.outcome.Outcome.{Outcome}
-use Rattle.rail_ops.specs.Exact.{IsExact, Leaves}
-use Rattle.rail_ops.specs.Sight.{MayBe, placed, shown_by}
+use Rattle.rail_ops.specs.Exact.{IsExact}
+use Rattle.rail_ops.specs.Sight.{placed, shown_by}
 use Rattle.rail_ops.specs.Inside.Enabling.{enable_refusal}
-use Rattle.rail_ops.specs.Inside.Rising.{CameUp, IsSeen, WentUp, LeadsUp, rises}
+use Rattle.rail_ops.specs.Inside.Rising.{CameUp, WentUp, LeadsUp, rises}
 use Rattle.rail_ops.proofs.Chains.{chain_held, chain_owned, leads_up, rail_held}
 use Rattle.rail_ops.proofs.Exactly.{exact_refused}
 use Rattle.rail_ops.proofs.OneMore.{came_from, it, left, refusal_calm, row_enables, rows_same, seen_from, seen_place, seen_refusal, seen_row, settled_exact, went_from, went_none, writes_taken}

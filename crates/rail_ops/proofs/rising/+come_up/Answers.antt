@@ -1,23 +1,19 @@
-use Rattle.std.proofs.Common.{◌≡◌, ◌≢◌, ◌+◌, ◌-◌, ◌<◌, ◌≤◌, ℕ, true, false, List, [], ◌∷◌, Option, Some, None, refl, sym, ap, ◌∙◌, subst, arith, length, map, slice_get, eqb, All}
-use Rattle.std.specs.Prelude.{Contains, IfSome, is_some, option_map}
+use Rattle.std.proofs.Common.{◌≡◌, ◌+◌, ◌-◌, ℕ, false, List, [], ◌∷◌, Option, Some, None, sym, ap, ◌∙◌, subst, arith, slice_get, eqb, All}
+use Rattle.std.specs.Prelude.{Contains, option_map}
 use Rattle.std.proofs.lemmas.Option.{slice_get_within}
 use Rattle.std.proofs.lemmas.Result.{err_from_is_err_and}
 use Rattle.reg_outside.specs.Bus.{Bus, told_by}
 use Rattle.board.specs.declared.board.Board.{Board}
 use Rattle.board.specs.declared.part.Part.TheVariants.{Enable as EnableBit}
-use Rattle.board.specs.declared.rail.Rail.{Rail}
 use Rattle.board.specs.declared.rail_id.RailId.{RailId}
-use Rattle.board.specs.Rail.{is_on}
 use Rattle.board.specs.Valid.{IsValid}
-use Rattle.rail_law.specs.Moves.{Move}
 use Rattle.rail_state.specs.Sight.{IsGuarded, IsOwned}
-use Rattle.plain_board.specs.declared.plain.Plain.{Plain}
 use Rattle.plain_board.specs.Answer.{enable_time}
 use Rattle.plain_board.specs.Plan.{switch, upward}
-use Rattle.rail_ops.specs.Sight.{Hands, Shows, shown_by}
+use Rattle.rail_ops.specs.Sight.{shown_by}
 use Rattle.rail_ops.specs.Taking.{Tells, updates_of}
 use Rattle.rail_ops.specs.Inside.Raised.{raised}
-use Rattle.rail_ops.specs.Inside.Rising.{CameUp, IsSeen, LeadsUp, WentUp, rises}
+use Rattle.rail_ops.specs.Inside.Rising.{CameUp, LeadsUp, WentUp, rises}
 use Rattle.rail_ops.proofs.CameUp.{all_came, came_none, came_off, came_on, came_over, came_same, came_up_too, few_rise, if_some_map, mid_shows, none_is, none_mapped, some_mapped, way_short, went_further, went_off}
 use Rattle.rail_ops.proofs.Ready.{guarded}
 use Rattle.rail_ops.proofs.Ways.{above, apart_above, first_of, leads_above, nothing_above, rest_of, supply_there, upheld, way_is, way_long}

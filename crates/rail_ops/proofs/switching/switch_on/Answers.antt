@@ -1,4 +1,4 @@
-use Rattle.std.proofs.Common.{◌≡◌, ◌<◌, List, ℕ, length, slice_get, Some, refl, sym, ap, ◌∙◌, subst}
+use Rattle.std.proofs.Common.{◌<◌, List, ℕ, length, slice_get, sym, ap, ◌∙◌, subst}
 use Rattle.std.specs.Prelude.{Contains, ◌++◌, ◌∷◌, []}
 use Rattle.board.specs.declared.board.Board.{Board}
 use Rattle.board.specs.declared.event.Event.TheVariants.{Enable as TellsEnable}

@@ -1,4 +1,4 @@
-use Rattle.std.proofs.Common.{rules, ◌≡◌, ◌<◌, ℕ, Bool, List, length, get_or, refl, sym, ap, subst, ◌∙◌, arith, tests}
+use Rattle.std.proofs.Common.{arith}
 use Rattle.std.proofs.lemmas.Bool.{ltb-true, lt-ltb}
 use Rattle.rail_ops.specs.Inside.AloneLaws.{rail_within}
 use Rattle.rail_ops.proofs.AloneFields.{rail_among}

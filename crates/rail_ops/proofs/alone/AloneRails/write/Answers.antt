@@ -1,5 +1,4 @@
-use Rattle.std.proofs.Common.{rules, ◌≡◌, ◌<◌, ℕ, Bool, List, length, get_or, refl, sym, ap, subst, ◌∙◌, arith, tests}
-use Rattle.board.specs.declared.part.Part.{Part}
+use Rattle.std.proofs.Common.{ℕ, List, sym, ap, subst, ◌∙◌, arith}
 use Rattle.rail_ops.specs.Foreign.{foreign}
 use Rattle.rail_ops.specs.Inside.Alone.{number_at, Fits}
 use Rattle.rail_ops.proofs.AloneFields.{placed, room_of, number_kept, fits_after}
