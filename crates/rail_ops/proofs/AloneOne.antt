@@ -1,21 +1,16 @@
 -- The plain board that all rails show, part by part.
-use Rattle.std.proofs.Common.{◌≡◌, ℕ, ◌<◌, Bool, false, List, [], Some, sym, ap, subst, ◌∙◌, arith, length, get_or, map}
-use Rattle.std.specs.Prelude.{Contains, slice_index_or}
+use Rattle.std.proofs.Common.{◌≡◌, ℕ, ◌<◌, Bool, false, List, [], Some, sym, ap, subst, ◌∙◌, arith, length, map}
+use Rattle.std.specs.Prelude.{slice_index_or}
 use Rattle.std.specs.Option.{option_map_or}
-use Rattle.std.proofs.lemmas.Bool.{or_right}
 use Rattle.std.proofs.lemmas.List.{length-map, ext_get_or, get_or-map}
-use Rattle.std.proofs.lemmas.Option.{slice_get-get_or, slice_get_within}
+use Rattle.std.proofs.lemmas.Option.{slice_get_within}
 use Rattle.chip_regs.specs.declared.field.Field.{Field}
 use Rattle.chip_regs.specs.Registers.{field_of}
-use Rattle.board_graph.specs.Graph.{count_of}
-use Rattle.board_graph.specs.Sets.{rails_of, guard_of, is_guard_of, is_supply_of, is_block_of}
-use Rattle.board_graph.proofs.Growth.{from_taken, is_rail, kept}
-use Rattle.board_graph.proofs.SetLaws.{block_is}
+use Rattle.board_graph.specs.Sets.{rails_of}
 use Rattle.board.specs.declared.board.Board.{Board}
 use Rattle.board.specs.declared.event.Event.{Event}
 use Rattle.board.specs.declared.part.Part.{Part}
 use Rattle.board.specs.Fields.{field_at}
-use Rattle.board.specs.Valid.{IsValid}
 use Rattle.use_counts.specs.Book.{Book}
 use Rattle.plain_board.specs.declared.plain.Plain.{Plain}
 use Rattle.plain_board.specs.Handles.{Entry, rows_on}
@@ -26,20 +21,11 @@ use Rattle.rail_state.specs.Sight.{IsGuarded}
 use Rattle.rail_ops.specs.Sight.{Shows}
 use Rattle.rail_ops.specs.Foreign.{foreign}
 use Rattle.rail_ops.specs.Inside.Alone.{Fits, handles_in, no_book}
-use Rattle.rail_ops.specs.Inside.AloneLaws.{count_rails}
 use Rattle.rail_ops.proofs.AloneFields.{rail_among, rail_of_field}
 use Rattle.rail_ops.proofs.AlonePlain.{handles_are}
 use Rattle.rail_ops.proofs.AloneShown.{hands_of, hold_at}
 use Rattle.rail_ops.proofs.ForeignLaws.{foreign_same}
-
--- each rail is among those that guard it
-pub guards_itself : (board : Board) → IsValid board → (r : ℕ) → r < length board.rails → Contains (guard_of board.graph r) r
-guards_itself board valid r within =
-    let there : r < count_of board.graph = subst (λ (n : ℕ). r < n) (count_rails board valid) within in
-    let group = slice_get-get_or board.graph.group r 0 there in
-    let block = block_is board.graph r r (record { group = get_or board.graph.group r 0; first = group; second = group }) in
-    from_taken (guard_of board.graph r) r
-    (kept (λ (i : ℕ). is_guard_of board.graph i r) (rails_of board.graph) r (is_rail board.graph r there) (or_right (is_supply_of board.graph r r) (is_block_of board.graph r r) block))
+use Rattle.rail_ops.proofs.Ready.{guards_itself}
 
 -- a plain board, part by part
 abbrev plain_of : List (List ℕ) → List Entry → List Bool → Bool → List (List Event) → Plain

@@ -17,6 +17,7 @@ use use_counts::Mine;
 
 /// A worker at its board: the rails that it holds, its wire, its open names, and whether it keeps the
 /// register writes that its calls make.
+#[derive(Drop)]
 pub struct Desk<'a, R: Rails, W: Wire> {
     pub board: &'a Board,
     pub rails: &'a mut R,
