@@ -3,10 +3,11 @@ use Rattle.std.specs.Prelude.{ℕ, ◌≡◌, ◌≤◌, Bool, false, List, [], 
 use Rattle.reg_outside.specs.Bus.{Bus}
 use Rattle.board.specs.declared.write.Write.{Write}
 use Rattle.rail_law.specs.Moves.{writes_of}
+use Rattle.board.specs.declared.board.Board.{Board}
 use Rattle.rows.specs.declared.answer.Answer.{Answer}
 use Rattle.rows.specs.declared.call.Call.{Call}
 use Rattle.plain_board.specs.declared.plain.Plain.{Plain}
-use Rattle.plain_board.specs.Answer.{answer, plan}
+use Rattle.plain_board.specs.Answer.{answer, plan, stopped}
 use Rattle.plain_board.specs.Moved.{after_first}
 use Rattle.plain_board.specs.History.{stop_of, made_of}
 use Rattle.rail_ops.specs.Sight.{Place, MayBe, Shows}
@@ -25,11 +26,17 @@ pub record IsExact (call : Call) (before after : Place) (bus bus' : Bus) (keep :
 abbrev pub Performs : Call → Place → Place → Bus → Bus → Bool → Answer → List Write → Type 0
 Performs call before after bus bus' keep said writes = (plain : Plain) → MayBe before plain → IsExact call before after bus bus' keep said writes plain
 
--- the memory was out after so many moves: the worker sees the plain board after them, and the wire took these alone
+-- The plain board where the memory was out after the first so many moves of a call: as after a stop
+-- behind them, but that no move was refused.
+abbrev pub cut_off : Board → Plain → ℕ → Call → ℕ → Plain
+cut_off board plain worker call made =
+    let moves = take made (plan board plain worker call) in stopped board (after_first board plain made moves) worker call
+
+-- so many moves were made: the worker sees the plain board that is left, and the wire took these alone
 pub record IsLeft (call : Call) (before after : Place) (bus bus' : Bus) (plain : Plain) : Type 0 where
   pub made : ℕ
   pub within : made ≤ length (plan before.hands.board plain before.worker call)
-  pub shows : Shows after.hands (after_first before.hands.board plain made (plan before.hands.board plain before.worker call))
+  pub shows : Shows after.hands (cut_off before.hands.board plain before.worker call made)
   pub names : after.names ≡ before.names
   pub tells : Tells (updates_of before.hands.board (take made (plan before.hands.board plain before.worker call))) false bus bus'
 

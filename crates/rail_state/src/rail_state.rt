@@ -211,6 +211,15 @@ impl RailState {
         self.events.push(event)
     }
 
+    /// Puts this event in the place of what was told last.
+    pub fn retell(&mut self, event: Event)
+        ensures { (events : List Event) (last : Event) → self.old.events ≡ events ++ last ∷ [] → self.new ≡ record self.old { events = events ++ event ∷ [] } }
+    {
+        if let Some(last) = self.events.len().checked_sub(1) {
+            self.events.set(last, event);
+        }
+    }
+
     /// Takes back what was told last.
     pub fn untell(&mut self)
         ensures { (events : List Event) (last : Event) → self.old.events ≡ events ++ last ∷ [] → self.new ≡ record self.old { events = events } }
