@@ -11,6 +11,7 @@ pub mod CameUp
 pub mod Ways
 pub mod OneRow
 pub mod OneMore
+pub mod NewHandle
 pub mod Chains
 pub mod AloneFields
 pub mod ForeignBits

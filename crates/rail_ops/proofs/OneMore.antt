@@ -4,7 +4,7 @@ use Rattle.std.specs.Prelude.{Contains, IfSome, is_some, position, if◌then◌e
 use Rattle.std.specs.List.{enumerate_from}
 use Rattle.std.specs.Option.{option_map_or}
 use Rattle.std.proofs.lemmas.Bool.{cases_eq, eq-eqb}
-use Rattle.std.proofs.lemmas.List.{take_all, take-map}
+use Rattle.std.proofs.lemmas.List.{length-take-le, take_all, take-map}
 use Rattle.std.proofs.lemmas.Option.{same_Some, slice_get-map, slice_get_within}
 use Rattle.arrayvec.specs.ArrayString.{ArrayString}
 use Rattle.reg_outside.specs.Bus.{Bus}
@@ -41,7 +41,7 @@ use Rattle.plain_board.specs.Untied.{CountsNoLoads, HoldFields, IsUntied}
 use Rattle.plain_board.proofs.HandleCallLaws.{handle_calls_keep_fields_lem, handle_calls_keep_inv_lem}
 use Rattle.plain_board.proofs.HandleMoves.{enable_plan}
 use Rattle.plain_board.proofs.Switches.{AreSwitchedOnly, nothing_switched, uv_kept}
-use Rattle.rail_ops.specs.Exact.{IsExact, IsLeft}
+use Rattle.rail_ops.specs.Exact.{IsExact, IsLeft, cut_off}
 use Rattle.rail_ops.specs.Sight.{Hands, Knows, MayBe, placed, Shows, ShowsSame}
 use Rattle.rail_ops.specs.Taking.{Tells, updates_of}
 use Rattle.rail_ops.specs.Inside.Enabling.{enable_refusal}
@@ -139,18 +139,30 @@ module _ (first : Hands) (names : List (List ℕ × ℕ)) (worker : ℕ) (handle
       calls_are : moves_of_call first.board plain worker call ≡ moves
       calls_are = sym (ap (planned first.board plain worker call) free) ∙ plan_is
 
-      stays : (i : ℕ) → uv_at first.board (after_moves first.board plain.regs moves) i ≡ uv_at first.board plain.regs i
-      stays i = by (slice_get first.board.rails i) refl where
-        by : (o : Option Rail) → slice_get first.board.rails i ≡ o → option_map_or (λ (rail : Rail). uv rail (after_moves first.board plain.regs moves)) o 0 ≡ option_map_or (λ (rail : Rail). uv rail plain.regs) o 0
+      stays : (rails : List ℕ) (i : ℕ) → uv_at first.board (after_moves first.board plain.regs (map (switch 1) rails)) i ≡ uv_at first.board plain.regs i
+      stays rails i = by (slice_get first.board.rails i) refl where
+        by : (o : Option Rail) → slice_get first.board.rails i ≡ o → option_map_or (λ (rail : Rail). uv rail (after_moves first.board plain.regs (map (switch 1) rails))) o 0 ≡ option_map_or (λ (rail : Rail). uv rail plain.regs) o 0
         by None none = refl
         by (Some rail) is =
-            uv_kept first.board plain.regs (after_moves first.board plain.regs moves)
-            (only_after first.board valid.sound plain.regs may_be.inv.kept.regs may_be.hold (off_rails first.board plain.regs (reverse (chain first.board r))) plain.regs
+            uv_kept first.board plain.regs (after_moves first.board plain.regs (map (switch 1) rails))
+            (only_after first.board valid.sound plain.regs may_be.inv.kept.regs may_be.hold rails plain.regs
             (nothing_switched first.board valid.sound plain.regs may_be.inv.kept.regs may_be.hold)) i rail is
+
+      abbrev off : List ℕ
+      off = off_rails first.board plain.regs (reverse (chain first.board r))
 
       -- the plain board after the first so many
       so_far : (made : ℕ) → after_first first.board plain made moves ≡ raised first.board plain (take made moves)
-      so_far made = after_first-raised first.board plain (off_rails first.board plain.regs (reverse (chain first.board r))) made stays
+      so_far made = after_first-raised first.board plain off made (stays off)
+
+      -- and where no more was tried
+      cut_is : (made : ℕ) → made ≤ length moves → cut_off first.board plain worker call made ≡ raised first.board plain (take made moves)
+      cut_is made within =
+          ap (λ (ms : List Move). after_first first.board plain made (take made ms)) plan_is
+          ∙ ap (after_first first.board plain made) (take-map (switch 1) made off)
+          ∙ after_first-raised first.board plain (take made off) made (stays (take made off))
+          ∙ ap (λ (ms : List Move). raised first.board plain (take made ms)) (sym (take-map (switch 1) made off))
+          ∙ ap (raised first.board plain) (take_all made (take made moves) (omega (arith, length-take-le made moves within)))
 
       answer_is : (stop : Option ℕ) → answer first.board plain worker call stop ≡ settled first.board plain worker call moves stop
       answer_is stop = ap (answered first.board plain worker call stop) free ∙ ap (λ ms. settled first.board plain worker call ms stop) calls_are
@@ -169,7 +181,7 @@ module _ (first : Hands) (names : List (List ℕ × ℕ)) (worker : ℕ) (handle
       left mid bus bus' made went = record {
         made = made;
         within = subst (λ (ms : List Move). made ≤ length ms) (sym plan_is) went.within;
-        shows = subst (Shows mid) (sym (ap (after_first first.board plain made) plan_is ∙ so_far made)) went.shows;
+        shows = subst (Shows mid) (sym (cut_is made went.within)) went.shows;
         names = refl;
         tells = subst (λ (ms : List Move). Tells (updates_of first.board (take made ms)) false bus bus') (sym plan_is) went.tells;
       }

@@ -6,3 +6,4 @@ pub mod Rising
 pub mod Alone
 pub mod AloneLaws
 pub mod Enabling
+pub mod Opening

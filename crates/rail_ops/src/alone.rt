@@ -13,6 +13,7 @@ ghost use Rattle.rail_ops.specs.Sight.{Shows, shown_by};
 ghost use Rattle.rail_ops.specs.Foreign.{foreign};
 ghost use Rattle.rail_ops.specs.Inside.Alone.{AreBooks, AreVotes, blank, handles_in, with_rows};
 
+use crate::opening::has_number;
 use board::{Board, Event, Part, Rail, RailId};
 use chip_regs::{Bits, Regs};
 use item_list::Items;
@@ -149,13 +150,6 @@ fn without_handles(
         states.push(RailState::new(alloc, &[], holds[i], votes[i], list, suspended)?)?;
     }
     Ok(states)
-}
-
-/// A worker's number has 16 bits.
-fn has_number(row: &HandleRow)
-    ensures { row.now.worker < 65536 }
-{
-    let _worker = row.worker;
 }
 
 /// The states with these handles, each on its rail.

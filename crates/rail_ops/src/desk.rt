@@ -1,4 +1,4 @@
-ghost use Rattle.std.specs.Prelude.{◌≡◌, IfOk, IsOk, OnErr};
+ghost use Rattle.std.specs.Prelude.{◌≡◌, ◌<◌, length, IfOk, IsOk, OnErr};
 ghost use Rattle.board.specs.Valid.{IsValid};
 ghost use Rattle.reg_outside.specs.Bus.{told_by};
 ghost use Rattle.plain_board.specs.Untied.{CountsNoLoads, IsUntied};
@@ -7,8 +7,9 @@ ghost use Rattle.rail_ops.specs.Sight.{IsReady, placed, shown_by};
 
 use crate::enabling::enable;
 use crate::looking;
+use crate::opening;
 use crate::outcome::{Outcome, without_writes};
-use board::{Board, Handle};
+use board::{Board, Handle, RailId};
 use rail_state::Rails;
 use reg_outside::Wire;
 use rows::Call;
@@ -57,6 +58,59 @@ impl<'a, R: Rails, W: Wire> Desk<'a, R, W> {
         ensures base { R.base self.new.rails.now ≡ R.base self.old.rails.now }
     {
         let answer = looking::is_on(self.board, self.rails, self.mine, self.worker, &handle);
+        Ok(without_writes(alloc, answer))
+    }
+
+    /// Opens a handle on a rail, under a name that the worker hasn't open. An exclusive one wants the rail
+    /// alone. At `Err` nothing has changed.
+    pub fn open_handle(
+        &mut self,
+        alloc: Global,
+        handle: Handle,
+        r: RailId,
+        exclusive: bool,
+    ) -> Result<Outcome, AllocError>
+        requires valid { IsValid self.old.board.now }
+        requires board { R.board self.old.rails.now ≡ self.old.board.now }
+        requires fits { R.fits self.old.rails.now }
+        requires there { r.0 < length self.old.board.now.rails }
+        requires ready { IsReady (placed (shown_by R.board R.rails R.bits R.states self.old.rails.now) self.old.mine.now self.old.worker) (Call.Open handle r exclusive) }
+        ensures exact { IfOk result (λ outcome. Performs (Call.Open handle r exclusive) (placed (shown_by R.board R.rails R.bits R.states self.old.rails.now) self.old.mine.now self.old.worker) (placed (shown_by R.board R.rails R.bits R.states self.new.rails.now) self.new.mine.now self.new.worker) (told_by W.accepted W.plan W.faults self.old.wire.now) (told_by W.accepted W.plan W.faults self.new.wire.now) self.old.keep outcome.answer outcome.writes) }
+        ensures err { OnErr result (Leaves (Call.Open handle r exclusive) (placed (shown_by R.board R.rails R.bits R.states self.old.rails.now) self.old.mine.now self.old.worker) (placed (shown_by R.board R.rails R.bits R.states self.new.rails.now) self.new.mine.now self.new.worker) (told_by W.accepted W.plan W.faults self.old.wire.now) (told_by W.accepted W.plan W.faults self.new.wire.now)) }
+        ensures fits { R.fits self.new.rails.now }
+        ensures board { R.board self.new.rails.now ≡ R.board self.old.rails.now }
+        ensures rails { R.rails self.new.rails.now ≡ R.rails self.old.rails.now }
+        ensures base { R.base self.new.rails.now ≡ R.base self.old.rails.now }
+    {
+        let answer = opening::open(
+            self.board,
+            self.rails,
+            self.mine,
+            self.worker,
+            handle,
+            r,
+            exclusive,
+        )?;
+        Ok(without_writes(alloc, answer))
+    }
+
+    /// Closes a handle that has no enables: its request, its load and its exclusion end, and its name is
+    /// free.
+    pub fn close_handle(&mut self, alloc: Global, handle: Handle) -> Result<Outcome, AllocError>
+        requires valid { IsValid self.old.board.now }
+        requires untied { IsUntied self.old.board.now }
+        requires no_loads { CountsNoLoads self.old.board.now }
+        requires board { R.board self.old.rails.now ≡ self.old.board.now }
+        requires fits { R.fits self.old.rails.now }
+        requires ready { IsReady (placed (shown_by R.board R.rails R.bits R.states self.old.rails.now) self.old.mine.now self.old.worker) (Call.Close handle) }
+        ensures exact { IfOk result (λ outcome. Performs (Call.Close handle) (placed (shown_by R.board R.rails R.bits R.states self.old.rails.now) self.old.mine.now self.old.worker) (placed (shown_by R.board R.rails R.bits R.states self.new.rails.now) self.new.mine.now self.new.worker) (told_by W.accepted W.plan W.faults self.old.wire.now) (told_by W.accepted W.plan W.faults self.new.wire.now) self.old.keep outcome.answer outcome.writes) }
+        ensures ok { IsOk result }
+        ensures fits { R.fits self.new.rails.now }
+        ensures board { R.board self.new.rails.now ≡ R.board self.old.rails.now }
+        ensures rails { R.rails self.new.rails.now ≡ R.rails self.old.rails.now }
+        ensures base { R.base self.new.rails.now ≡ R.base self.old.rails.now }
+    {
+        let answer = opening::close(self.board, self.rails, self.mine, self.worker, &handle);
         Ok(without_writes(alloc, answer))
     }
 

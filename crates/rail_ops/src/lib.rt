@@ -5,6 +5,7 @@ mod alone;
 mod desk;
 mod enabling;
 mod looking;
+mod opening;
 mod outcome;
 mod rising;
 mod switching;
