@@ -1,5 +1,5 @@
 -- Calls that make no move, from how they are answered.
-use Rattle.std.proofs.Common.{◌≡◌, ℕ, Bool, true, false, List, [], Option, Some, None, refl, sym, ap, subst, ◌∙◌}
+use Rattle.std.proofs.Common.{arith, ◌≡◌, ℕ, Bool, true, false, List, [], Option, Some, None, refl, sym, ap, subst, ◌∙◌}
 use Rattle.std.specs.Prelude.{Contains, if◌then◌else◌}
 use Rattle.reg_outside.specs.Bus.{Bus}
 use Rattle.reg_outside.proofs.ToldFacts.{with_more-nil}
@@ -11,14 +11,14 @@ use Rattle.rows.specs.declared.answer.Answer.{Answer}
 use Rattle.rows.specs.declared.answer.Answer.TheVariants.{Fault}
 use Rattle.rows.specs.declared.call.Call.{Call}
 use Rattle.plain_board.specs.declared.plain.Plain.{Plain}
-use Rattle.plain_board.specs.Answer.{answer, answered, plan, planned}
+use Rattle.plain_board.specs.Answer.{answer, answered, plan, planned, stopped}
 use Rattle.plain_board.specs.History.{stop_of, IsWithinPlan, made_of, is_fault}
 use Rattle.plain_board.specs.Inv.{Inv}
 use Rattle.plain_board.specs.Plan.{moves_of_call}
 use Rattle.plain_board.specs.Refusals.{refusal}
 use Rattle.plain_board.specs.Seen.{book}
 use Rattle.plain_board.specs.Untied.{HoldFields}
-use Rattle.rail_ops.specs.Exact.{IsExact}
+use Rattle.rail_ops.specs.Exact.{IsExact, IsLeft}
 use Rattle.rail_ops.specs.Sight.{Hands, Place, placed, ShowsSame, Shows, MayBe}
 use Rattle.rail_ops.specs.Taking.{Tells, updates_of}
 use Rattle.rail_ops.proofs.Tries.{tried_none}
@@ -89,4 +89,15 @@ may_be_same before after names worker plain same may_be = record {
   hold = subst (λ (b : Board). HoldFields b plain.regs) (sym same.board) may_be.hold;
   shows = shows_same before after plain same may_be.shows;
   knows = may_be.knows;
+}
+
+-- the memory was out before a call did anything
+pub left_still : (before after : Hands) (names names' : List (List ℕ × ℕ)) (worker : ℕ) (call : Call) (bus : Bus) (plain : Plain) → MayBe (placed before names worker) plain → stopped before.board plain worker call ≡ plain
+    → ShowsSame before after → names' ≡ names → IsLeft call (placed before names worker) (placed after names' worker) bus bus plain
+left_still before after names names' worker call bus plain may_be same shows kept = record {
+  made = 0;
+  within = omega arith;
+  shows = subst (Shows after) (sym same) (shows_same before after plain shows may_be.shows);
+  names = kept;
+  tells = tells_nothing bus;
 }

@@ -12,6 +12,8 @@ pub mod Ways
 pub mod OneRow
 pub mod OneMore
 pub mod NewHandle
+pub mod Opened
+pub mod Closed
 pub mod Chains
 pub mod AloneFields
 pub mod ForeignBits

@@ -1,5 +1,5 @@
 -- The handles of a plain board with a new one, and without one: their rows, rail by rail, and where each name is open.
-use Rattle.std.proofs.Common.{◌≡◌, ◌≢◌, ℕ, ◌+◌, ◌≤◌, ◌<◌, ◌==◌, Bool, true, false, cond, not, List, [], ◌∷◌, ◌++◌, Option, Some, None, inl, inr, refl, sym, ap, ◌∙◌, subst, arith, map, filter, find, length, remove, sum_by, get_or, All, AllPairs}
+use Rattle.std.proofs.Common.{◌≡◌, ◌≢◌, ℕ, ◌+◌, ◌-◌, ◌≤◌, ◌<◌, ◌==◌, Bool, true, false, cond, not, List, [], ◌∷◌, ◌++◌, Option, Some, None, inl, inr, refl, sym, ap, ◌∙◌, subst, arith, map, filter, find, length, remove, sum_by, get_or, All, AllPairs}
 use Rattle.std.specs.Prelude.{nat_le, nat_lt, option_map, bytes_eq, if◌then◌else◌}
 use Rattle.std.proofs.lemmas.Bool.{cases_eq, cases_lt, eq-eqb, eqb-true, false_from_ne_true, leb-true, leb-false, ltb-true, ltb-false, lt-ltb, le-ltb, lt-leb, le-leb}
 use Rattle.std.proofs.lemmas.List.{append-nil, map-append}
@@ -52,7 +52,7 @@ in_two r handles apart =
 -- the rows of a rail among handles that are chosen by their rail
 rows_chosen : (q : ℕ → Bool) (i : ℕ) (handles : List Entry) → rows_on (filter (λ (entry : Entry). q entry.0.0) handles) i ≡ cond (q i) (rows_on handles i) []
 rows_chosen q i [] = by (q i) where
-  by : (t : Bool) → [] ≡ cond t [] []
+  by : (t : Bool) → ◌≡◌ {A = List HandleRow} [] (cond t [] [])
   by true = refl
   by false = refl
 rows_chosen q i (x ∷ rest) = by (x.0.0 == i) refl (rows_chosen q i rest) where

@@ -37,7 +37,7 @@ set_between [] x new back = refl
 set_between (y ∷ front) x new back = ap (λ rest. y ∷ rest) (set_between front x new back)
 
 module _ (worker : ℕ) (name : List ℕ) where
-  own_parts : (entry : Entry) → is_own worker name entry ≡ true → (entry.1.worker ≡ worker) × (entry.1.handle.bytes ≡ name)
+  pub own_parts : (entry : Entry) → is_own worker name entry ≡ true → (entry.1.worker ≡ worker) × (entry.1.handle.bytes ≡ name)
   own_parts entry own =
       let both = and_parts _ _ own in
       (eqb-true entry.1.worker worker both.0, (bytes_eq-Decides entry.1.handle.bytes name).0 both.1)
@@ -88,7 +88,7 @@ module _ (worker : ℕ) (name : List ℕ) where
   between (x ∷ rest) entry apart is = between_by x rest entry (is_own worker name x) refl apart (between rest entry (pairs_rest StandApart x rest apart)) is
 
   -- none of the rows of handles that aren't the worker's is
-  rows_none : (handles : List Entry) (r : ℕ) → All (λ x. is_own worker name x ≡ false) handles → All (λ row. is_row_of worker name row ≡ false) (rows_on handles r)
+  pub rows_none : (handles : List Entry) (r : ℕ) → All (λ x. is_own worker name x ≡ false) handles → All (λ row. is_row_of worker name row ≡ false) (rows_on handles r)
   rows_none [] r none = All-nil (λ row. is_row_of worker name row ≡ false)
   rows_none (x ∷ rest) r none = by (x.0.0 == r) (rows_none rest r (All-tail (λ y. is_own worker name y ≡ false) x rest none)) where
     by : (t : Bool) → All (λ row. is_row_of worker name row ≡ false) (rows_on rest r) → All (λ row. is_row_of worker name row ≡ false) (map (λ (e : Entry). e.1) (cond t (x ∷ filter (λ (e : Entry). e.0.0 == r) rest) (filter (λ (e : Entry). e.0.0 == r) rest)))
