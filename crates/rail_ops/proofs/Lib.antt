@@ -14,6 +14,8 @@ pub mod OneMore
 pub mod NewHandle
 pub mod Opened
 pub mod Closed
+pub mod Answered
+pub mod OtherHandles
 pub mod Chains
 pub mod AloneFields
 pub mod ForeignBits

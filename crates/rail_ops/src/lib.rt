@@ -4,6 +4,7 @@
 mod alone;
 mod desk;
 mod enabling;
+pub mod laws;
 mod looking;
 mod opening;
 mod outcome;
