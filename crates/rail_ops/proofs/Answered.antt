@@ -29,18 +29,18 @@ use Rattle.rail_ops.proofs.Found.{found_has, some_of}
 abbrev Calm : Reason → Type 0
 Calm reason = is_fault reason.1 ≡ false
 
-module _ (board : Board) (plain : Plain) (worker : ℕ) where
-  -- what holds of what is said of an open handle, and where there is none, holds of what is said
-  for_each : {A : Type 0} (P : A → Type 0) (none : A) (said : RailId → Rail → HandleRow → A) → P none → ((id : RailId) (rail : Rail) (row : HandleRow) → P (said id rail row)) → (o : Option Entry) → P (for_open none said board o)
-  for_each P none said missing each None = missing
-  for_each P none said missing each (Some entry) = by (slice_get board.rails entry.0.0) where
-    by : (o : Option Rail) → P (on_rail none said entry o)
-    by None = missing
-    by (Some rail) = each entry.0 rail entry.1
+-- what holds of what is said of an open handle, and where there is none, holds of what is said
+pub for_each : (board : Board) {A : Type 0} (P : A → Type 0) (none : A) (said : RailId → Rail → HandleRow → A) → P none → ((id : RailId) (rail : Rail) (row : HandleRow) → P (said id rail row)) → (o : Option Entry) → P (for_open none said board o)
+for_each board P none said missing each None = missing
+for_each board P none said missing each (Some entry) = by (slice_get board.rails entry.0.0) where
+  by : (o : Option Rail) → P (on_rail none said entry o)
+  by None = missing
+  by (Some rail) = each entry.0 rail entry.1
 
+module _ (board : Board) (plain : Plain) (worker : ℕ) where
   calm_open : (said : RailId → Rail → HandleRow → List Reason) (name : List ℕ) → ((id : RailId) (rail : Rail) (row : HandleRow) → All Calm (said id rail row)) → All Calm (open_reasons said board plain worker name)
   calm_open said name each =
-      for_each (All Calm) ((true, NoHandle) ∷ []) said (All-cons Calm (true, NoHandle) [] refl (All-nil Calm)) each (open_of plain.handles worker name)
+      for_each board (All Calm) ((true, NoHandle) ∷ []) said (All-cons Calm (true, NoHandle) [] refl (All-nil Calm)) each (open_of plain.handles worker name)
 
   one : (a : Reason) → Calm a → All Calm (a ∷ [])
   one a calm = All-cons Calm a [] calm (All-nil Calm)
@@ -74,9 +74,9 @@ module _ (board : Board) (plain : Plain) (worker : ℕ) where
   done_is_calm (Close handle) is now = refl
   done_is_calm (Enable handle) is now = refl
   done_is_calm (Disable handle) is now = refl
-  done_is_calm (Set handle lo hi) is now = for_each (λ a. is_fault a ≡ false) NoHandle _ refl (λ id rail row. refl) (open_of plain.handles worker handle.bytes)
-  done_is_calm (Get handle) is now = for_each (λ a. is_fault a ≡ false) NoHandle _ refl (λ id rail row. refl) (open_of plain.handles worker handle.bytes)
-  done_is_calm (IsOn handle) is now = for_each (λ a. is_fault a ≡ false) NoHandle _ refl (λ id rail row. refl) (open_of plain.handles worker handle.bytes)
+  done_is_calm (Set handle lo hi) is now = for_each board (λ a. is_fault a ≡ false) NoHandle _ refl (λ id rail row. refl) (open_of plain.handles worker handle.bytes)
+  done_is_calm (Get handle) is now = for_each board (λ a. is_fault a ≡ false) NoHandle _ refl (λ id rail row. refl) (open_of plain.handles worker handle.bytes)
+  done_is_calm (IsOn handle) is now = for_each board (λ a. is_fault a ≡ false) NoHandle _ refl (λ id rail row. refl) (open_of plain.handles worker handle.bytes)
   done_is_calm ReleaseBoot is now = refl
   done_is_calm call is now = absurd is
 

@@ -16,6 +16,9 @@ pub mod Opened
 pub mod Closed
 pub mod Answered
 pub mod OtherHandles
+pub mod Selectors
+pub mod ForeignCalls
+pub mod NeededRails
 pub mod Chains
 pub mod AloneFields
 pub mod ForeignBits

@@ -22,6 +22,7 @@ use Rattle.plain_board.specs.Plan.{moves_of_call, one_less, one_more}
 use Rattle.plain_board.specs.Refusals.{refusal}
 use Rattle.plain_board.specs.Untied.{IsHandleCall}
 use Rattle.plain_board.proofs.Grown.{HasGrown, after_first-grown}
+use Rattle.rail_ops.proofs.Answered.{for_each}
 use Rattle.rail_ops.proofs.NewHandle.{opened_count}
 use Rattle.rail_ops.proofs.OneRow.{count_kept, own_parts}
 
@@ -71,11 +72,9 @@ module _ (board : Board) (plain : Plain) (worker other : ℕ) (apart : other ≢
     -- what a stopped set leaves
     kept_same : (handle : ArrayString) (o : Option Entry)
         → Same (for_open now (λ id rail row. with_changed now worker handle (with_request (kept_request (uv rail now.regs) row.request))) board o)
-    kept_same handle None = still
-    kept_same handle (Some entry) = by (slice_get board.rails entry.0.0) where
-      by : (o : Option Rail) → Same (on_rail now (λ id rail row. with_changed now worker handle (with_request (kept_request (uv rail now.regs) row.request))) entry o)
-      by None = still
-      by (Some rail) = changed_same handle (with_request (kept_request (uv rail now.regs) entry.1.request)) (λ row. refl) (λ row. refl)
+    kept_same handle =
+        for_each board Same now (λ id rail row. with_changed now worker handle (with_request (kept_request (uv rail now.regs) row.request))) still
+        (λ id rail row. changed_same handle (with_request (kept_request (uv rail now.regs) row.request)) (λ r. refl) (λ r. refl))
 
     stopped_same : (call : Call) → IsHandleCall call → Same (stopped board now worker call)
     stopped_same (Open handle rail exclusive) is = still
