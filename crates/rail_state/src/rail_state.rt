@@ -215,8 +215,9 @@ impl RailState {
     pub fn retell(&mut self, event: Event)
         ensures { (events : List Event) (last : Event) → self.old.events ≡ events ++ last ∷ [] → self.new ≡ record self.old { events = events ++ event ∷ [] } }
     {
-        if let Some(last) = self.events.len().checked_sub(1) {
-            self.events.set(last, event);
+        let told = self.events.len();
+        if told > 0 {
+            self.events.set(told - 1, event);
         }
     }
 
