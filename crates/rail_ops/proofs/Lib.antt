@@ -4,6 +4,8 @@ pub mod Ready
 pub mod Raised
 pub mod Stepped
 pub mod Upheld
+pub mod GoesOff
+pub mod CameDown
 pub mod AtMask
 pub mod Tries
 pub mod Exactly

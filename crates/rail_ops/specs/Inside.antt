@@ -3,6 +3,8 @@ pub mod Seen
 pub mod Raised
 pub mod Supplied
 pub mod Rising
+pub mod Falling
 pub mod Alone
 pub mod AloneLaws
 pub mod Enabling
+pub mod Disabling

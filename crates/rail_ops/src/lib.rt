@@ -4,6 +4,7 @@
 mod alone;
 mod desk;
 mod enabling;
+mod falling;
 mod looking;
 mod outcome;
 mod rising;
