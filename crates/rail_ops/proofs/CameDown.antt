@@ -32,13 +32,13 @@ use Rattle.rail_ops.specs.Sight.{Hands, Shows, ShowsSame}
 use Rattle.rail_ops.specs.Taking.{Tells, updates_of}
 use Rattle.rail_ops.specs.Inside.Falling.{CameDown, IsSighted, IsVoted, MayGoOff, WentDown, looks_idle, with_abort}
 use Rattle.rail_ops.specs.Inside.Raised.{ChangesBook, SwitchesOff, raised}
-use Rattle.rail_ops.proofs.CameUp.{on_by_bit, tells_then, updates_append}
+use Rattle.rail_ops.proofs.CameUp.{on_by_bit, tells_then}
 use Rattle.rail_ops.proofs.Exactly.{shows_same, tells_nothing}
 use Rattle.rail_ops.proofs.Found.{element}
 use Rattle.rail_ops.proofs.GoesOff.{guards_supplied}
 use Rattle.rail_ops.proofs.Raised.{more_told_at, more_told_past, more_told_rails, raised_append, raised_nil}
 use Rattle.rail_ops.proofs.Ready.{guarded}
-use Rattle.rail_ops.proofs.Stepped.{step_off_shows, tells_none, tells_own}
+use Rattle.rail_ops.proofs.Stepped.{step_off_shows}
 
 -- which rails of a chain go off doesn't hang on what they told
 chain_told : (board : Board) (plain : Plain) (events : List (List Event)) (rails : List ℕ) → chain_off board (record plain { events = events }) rails ≡ chain_off board plain rails
@@ -81,7 +81,7 @@ module _ (hands : Hands) (valid : IsValid hands.board) (plain : Plain) (sighted 
         let b = element hands.board.rails lower within in
         let off = no_vote hands.board valid.sound plain r no_votes lower b.0 supplied b.1 in
         let seen = on_by_bit hands plain sighted.shows lower b.0 b.1 (guards_supplied hands.board valid hands.rails r lower inside held supplied) in
-        both_ways _ (sym seen ∙ eq-eqb _ 1 on) off
+        both_ways _ off (sym seen ∙ eq-eqb _ 1 on)
 
     -- so it may go off, where its supply is held
     pub may_go : ((s : ℕ) → supply_at hands.board.graph r ≡ Some s → Contains hands.rails s) → MayGoOff hands r
@@ -96,7 +96,7 @@ module _ (hands : Hands) (valid : IsValid hands.board) (plain : Plain) (sighted 
         voted : (s : ℕ) → supply_at hands.board.graph r ≡ Some s → 0 < votes hands.board plain s
         voted s is = elim (cases_lt 0 (votes hands.board plain s)) [
           | inl some ↦ some
-          | inr none ↦ absurd (both_ways _ idle_on (no_vote hands.board valid.sound plain s (omega (arith, none)) r rail is at))
+          | inr none ↦ absurd (both_ways _ (no_vote hands.board valid.sound plain s (omega (arith, none)) r rail is at) idle_on)
         ]
 
     abbrev pub once_off : Plain

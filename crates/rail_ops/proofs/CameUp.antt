@@ -106,7 +106,7 @@ delay_more board first before after r rail at was before_off now others =
     omega (arith, sums, up, still)
 
 -- the wire took some updates, and then more
-tells_then : (first second : Updates) (stopped : Bool) (bus mid bus' : Bus) → Tells first false bus mid → Tells second stopped mid bus' → Tells (first ++ second) stopped bus bus'
+pub tells_then : (first second : Updates) (stopped : Bool) (bus mid bus' : Bus) → Tells first false bus mid → Tells second stopped mid bus' → Tells (first ++ second) stopped bus bus'
 tells_then first second stopped bus mid bus' one two = record {
   taken = two.taken ∙ ap (λ told. with_more told second) one.taken ∙ with_more-with_more bus.taken first second;
   faults = subst (λ n. Counts stopped n bus'.faults) one.faults two.faults;

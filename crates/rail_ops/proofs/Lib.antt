@@ -11,6 +11,7 @@ pub mod Tries
 pub mod Exactly
 pub mod CameUp
 pub mod Ways
+pub mod WayDown
 pub mod OneRow
 pub mod OneMore
 pub mod Chains
