@@ -36,11 +36,11 @@ element [] i within = absurd (omega (arith, within))
 element (x ∷ xs) zero within = (x, refl)
 element (x ∷ xs) (suc i) within = element xs i (omega (arith, within))
 
-some_of : {X Y : Type 0} (f : X → Y) (o : Option X) (y : Y) → option_map f o ≡ Some y → (x : X) × (o ≡ Some x) × (f x ≡ y)
+pub some_of : {X Y : Type 0} (f : X → Y) (o : Option X) (y : Y) → option_map f o ≡ Some y → (x : X) × (o ≡ Some x) × (f x ≡ y)
 some_of f None y is = absurd cc
 some_of f (Some x) y is = (x, refl, same_Some (f x) y is)
 
-none_of : {X Y : Type 0} (f : X → Y) (o : Option X) → option_map f o ≡ None → o ≡ None
+pub none_of : {X Y : Type 0} (f : X → Y) (o : Option X) → option_map f o ≡ None → o ≡ None
 none_of f None is = refl
 none_of f (Some x) is = absurd cc
 

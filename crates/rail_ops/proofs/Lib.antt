@@ -14,6 +14,7 @@ pub mod Ways
 pub mod WayDown
 pub mod OneRow
 pub mod OneMore
+pub mod GoneDown
 pub mod Chains
 pub mod AloneFields
 pub mod ForeignBits

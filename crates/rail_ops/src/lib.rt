@@ -3,6 +3,7 @@
 
 mod alone;
 mod desk;
+mod disabling;
 mod enabling;
 mod falling;
 mod looking;

@@ -1,10 +1,14 @@
 -- How a rail and those above it go down, from below.
-use Rattle.std.specs.Prelude.{ℕ, ◌≡◌, ◌≢◌, ◌≤◌, ◌<◌, ◌==◌, ◌&&◌, ◌++◌, ◌∷◌, [], Bool, false, List, Contains, map, flat_map, take, length, Option, Some, None, slice_get, is_some}
+use Rattle.std.specs.Prelude.{ℕ, ◌≡◌, ◌≢◌, ◌≤◌, ◌<◌, ◌==◌, ◌&&◌, ◌++◌, ◌∷◌, [], Bool, false, List, Contains, map, flat_map, take, length, Option, Some, None, slice_get, is_some, if◌then◌else◌}
 use Rattle.std.specs.List.{enumerate_from}
 use Rattle.reg_outside.specs.Bus.{Bus}
 use Rattle.board_graph.specs.Graph.{supply_at}
 use Rattle.board.specs.declared.part.Part.TheVariants.{Enable as EnableBit}
-use Rattle.rail_law.specs.Moves.{Move}
+use Rattle.board.specs.declared.rail.Rail.{Rail}
+use Rattle.board.specs.declared.write.Write.{Write}
+use Rattle.rail_law.specs.Moves.{Move, writes_of}
+use Rattle.rows.specs.declared.answer.Answer.{Answer}
+use Rattle.rows.specs.declared.answer.Answer.TheVariants.{Fault, Ok}
 use Rattle.use_counts.specs.Counts.{uses_of}
 use Rattle.plain_board.specs.declared.plain.Plain.{Plain}
 use Rattle.plain_board.specs.Events.{events_of_move}
@@ -51,3 +55,12 @@ pub record CameDown (before after : Hands) (bus bus' : Bus) (made : ℕ) (refuse
   pub went : WentDown before after bus bus' made refused plain moves
   pub all : refused ≡ None → made ≡ length moves
   pub next : (i : ℕ) → refused ≡ Some i → slice_get moves made ≡ Some (switch 0 i)
+
+-- so a call was answered whose rails went down: what the answer says of the bus, and the writes that were kept
+pub record Fell (before after : Hands) (bus bus' : Bus) (keep : Bool) (said : Answer) (writes : List Write) (plain : Plain) (moves : List Move) : Type 0 where
+  pub made : ℕ
+  pub refused : Option ℕ
+  pub came : CameDown before after bus bus' made refused plain moves
+  pub done : refused ≡ None → said ≡ Ok
+  pub fault : (i : ℕ) → refused ≡ Some i → (rail : Rail) × (slice_get before.board.rails i ≡ Some rail) × (said ≡ Fault rail.desc.enable.chip rail.desc.enable.reg made [])
+  pub kept : writes ≡ (if keep then writes_of before.board (take made moves) else [])
