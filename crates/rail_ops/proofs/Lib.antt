@@ -15,6 +15,9 @@ pub mod WayDown
 pub mod OneRow
 pub mod OneMore
 pub mod GoneDown
+pub mod Lowered
+pub mod GivenUp
+pub mod Disabled
 pub mod Chains
 pub mod AloneFields
 pub mod ForeignBits
