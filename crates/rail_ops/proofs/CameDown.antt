@@ -192,38 +192,38 @@ came_refused first after bus bus' plain r moves rest are shows told = record {
   next = λ i is. ap (λ (ms : List Move). slice_get ms 0) are ∙ ap (λ (k : ℕ). Some (switch 0 k)) (same_Some r i is);
 }
 
--- the first went off, and then those above it as far as they do
-module _ (first mid after : Hands) (same : mid.board ≡ first.board) (bus bus' bus'' : Bus) (plain : Plain) (r : ℕ) (moves : List Move) (above : List ℕ)
-    (are : moves ≡ switch 0 r ∷ chain_off first.board (raised first.board plain (switch 0 r ∷ [])) above) (told : Tells (updates_of first.board (switch 0 r ∷ [])) false bus bus') (made : ℕ) where
+-- the first went off, and then others as far as they do
+module _ (first mid after : Hands) (same : mid.board ≡ first.board) (bus bus' bus'' : Bus) (plain : Plain) (r : ℕ) (moves : List Move) (tail : Board → List Move)
+    (are : moves ≡ switch 0 r ∷ tail first.board) (told : Tells (updates_of first.board (switch 0 r ∷ [])) false bus bus') (made : ℕ) where
   abbrev next_plain : Plain
   next_plain = raised first.board plain (switch 0 r ∷ [])
 
   abbrev rest : List Move
-  rest = chain_off first.board next_plain above
+  rest = tail first.board
 
   front : take (suc made) moves ≡ switch 0 r ∷ take made rest
   front = ap (take (suc made)) are
 
-  pub went_on : (refused : Option ℕ) → WentDown mid after bus' bus'' made refused next_plain (chain_off mid.board next_plain above) → WentDown first after bus bus'' (made + 1) refused plain moves
+  pub went_on : (refused : Option ℕ) → WentDown mid after bus' bus'' made refused next_plain (tail mid.board) → WentDown first after bus bus'' (made + 1) refused plain moves
   went_on refused went = subst (λ (n : ℕ). WentDown first after bus bus'' n refused plain moves) one_more (record {
-    within = let within = subst (λ (b : Board). made ≤ length (chain_off b next_plain above)) same went.within in omega (arith, within, ap (λ (ms : List Move). length ms) are);
+    within = let within = subst (λ (b : Board). made ≤ length (tail b)) same went.within in omega (arith, within, ap (λ (ms : List Move). length ms) are);
     shows = subst (λ (ms : List Move). Shows after (with_abort (raised first.board plain ms) refused)) (sym front)
         (subst (λ (p : Plain). Shows after (with_abort p refused)) (raised_append first.board plain (switch 0 r ∷ []) (take made rest))
-        (subst (λ (b : Board). Shows after (with_abort (raised b next_plain (take made (chain_off b next_plain above))) refused)) same went.shows));
+        (subst (λ (b : Board). Shows after (with_abort (raised b next_plain (take made (tail b))) refused)) same went.shows));
     tells = subst (λ (ms : List Move). Tells (updates_of first.board ms) (is_some refused) bus bus'') (sym front)
         (tells_then (updates_of first.board (switch 0 r ∷ [])) (updates_of first.board (take made rest)) (is_some refused) bus bus' bus'' told
-        (subst (λ (b : Board). Tells (updates_of b (take made (chain_off b next_plain above))) (is_some refused) bus' bus'') same went.tells));
+        (subst (λ (b : Board). Tells (updates_of b (take made (tail b))) (is_some refused) bus' bus'') same went.tells));
   })
     where
       one_more : suc made ≡ made + 1
       one_more = omega arith
 
-  pub came_on : (refused : Option ℕ) → CameDown mid after bus' bus'' made refused next_plain (chain_off mid.board next_plain above) → CameDown first after bus bus'' (made + 1) refused plain moves
+  pub came_on : (refused : Option ℕ) → CameDown mid after bus' bus'' made refused next_plain (tail mid.board) → CameDown first after bus bus'' (made + 1) refused plain moves
   came_on refused came = record {
     went = went_on refused came.went;
-    all = λ none. let all = came.all none ∙ ap (λ (b : Board). length (chain_off b next_plain above)) same in omega (arith, all, ap (λ (ms : List Move). length ms) are);
+    all = λ none. let all = came.all none ∙ ap (λ (b : Board). length (tail b)) same in omega (arith, all, ap (λ (ms : List Move). length ms) are);
     next = λ i is.
-        let later : slice_get rest made ≡ Some (switch 0 i) = ap (λ (b : Board). slice_get (chain_off b next_plain above) made) (sym same) ∙ came.next i is in
+        let later : slice_get rest made ≡ Some (switch 0 i) = ap (λ (b : Board). slice_get (tail b) made) (sym same) ∙ came.next i is in
         let place : made + 1 ≡ suc made = omega arith in
         ap (slice_get moves) place ∙ ap (λ (ms : List Move). slice_get ms (suc made)) are ∙ later;
   }

@@ -68,7 +68,7 @@ not_moved board regs r (k ∷ above) apart =
     by true false is = rw is refl
 
 -- where two functions agree but for one place their sums differ by what they differ there
-sum_but_one : {X : Type 0} (f g : X → ℕ) (xs : List X) (r : ℕ) (x : X) → slice_get xs r ≡ Some x → ((k : ℕ) (y : X) → slice_get xs k ≡ Some y → (r ≡ k → ⊥) → f y ≡ g y)
+pub sum_but_one : {X : Type 0} (f g : X → ℕ) (xs : List X) (r : ℕ) (x : X) → slice_get xs r ≡ Some x → ((k : ℕ) (y : X) → slice_get xs k ≡ Some y → (r ≡ k → ⊥) → f y ≡ g y)
     → sum_by f xs + g x ≡ sum_by g xs + f x
 sum_but_one f g [] r x at others = absurd (cc)
 sum_but_one f g (y ∷ ys) zero x at others =

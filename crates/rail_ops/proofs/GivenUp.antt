@@ -43,6 +43,7 @@ use Rattle.rail_ops.specs.Taking.{Tells, updates_of}
 use Rattle.rail_ops.specs.Inside.Disabling.{disable_refusal}
 use Rattle.rail_ops.specs.Inside.Falling.{Fell, IsSighted, WentDown, with_abort}
 use Rattle.rail_ops.specs.Inside.Raised.{ChangesBook, raised}
+use Rattle.rail_ops.proofs.FallExact.{down_exact, left_down}
 use Rattle.rail_ops.proofs.Found.{Found, not_found}
 use Rattle.rail_ops.proofs.Lowered.{after_first-down, after_first-refused, stands_down}
 use Rattle.rail_ops.proofs.OneMore.{it, none_changed, seen_place}
@@ -147,163 +148,35 @@ module _ (first : Hands) (names : List (List ℕ × ℕ)) (worker : ℕ) (handle
       pub plan_is : plan first.board plain worker call ≡ moves
       plan_is = disable_plan first.board plain worker handle mine.entry no_loads mine.opened free ∙ ap (λ (i : ℕ). chain_off first.board less (chain first.board i)) mine.on
 
-      calls_are : moves_of_call first.board plain worker call ≡ moves
-      calls_are = sym (ap (planned first.board plain worker call) free) ∙ plan_is
-
-      answer_is : (stop : Option ℕ) → answer first.board plain worker call stop ≡ settled first.board plain worker call moves stop
-      answer_is stop = ap (answered first.board plain worker call stop) free ∙ ap (λ ms. settled first.board plain worker call ms stop) calls_are
-
-      abbrev rails : List ℕ
-      rails = rails_of_moves moves
-
-      switches : moves ≡ map (switch 0) rails
+      switches : moves ≡ map (switch 0) (rails_of_moves moves)
       switches = chain_switches first.board less (chain first.board r)
 
-      first_switches : (made : ℕ) → take made moves ≡ map (switch 0) (take made rails)
-      first_switches made = ap (take made) switches ∙ take-map (switch 0) made rails
+      commutes : (ms : List Move) (o : Option ℕ) → with_changed (with_abort (raised first.board plain ms) o) worker handle one_less ≡ with_abort (raised first.board less ms) o
+      commutes ms None = refl
+      commutes ms (Some i) = refl
 
-      knows_less : (now : Plain) → now.handles ≡ less.handles → Knows names worker now
-      knows_less now same = subst (λ handles. Knows names worker (record now { handles = handles })) (sym same) (record {
-        rails = λ text. may_be.knows.rails text ∙ sym (rail_kept worker handle.bytes one_less (λ row. refl) (λ row. refl) worker text plain.handles);
-        count = may_be.knows.count ∙ sym (count_kept worker handle.bytes one_less (λ row. refl) (λ row. refl) worker plain.handles);
-      })
+      knows : (ms : List Move) (o : Option ℕ) → Knows names worker (with_changed (with_abort (raised first.board plain ms) o) worker handle one_less)
+      knows ms o = subst (Knows names worker) (sym (commutes ms o)) (by o) where
+        known : Knows names worker less
+        known = record {
+          rails = λ text. may_be.knows.rails text ∙ sym (rail_kept worker handle.bytes one_less (λ row. refl) (λ row. refl) worker text plain.handles);
+          count = may_be.knows.count ∙ sym (count_kept worker handle.bytes one_less (λ row. refl) (λ row. refl) worker plain.handles);
+        }
+
+        by : (p : Option ℕ) → Knows names worker (with_abort (raised first.board less ms) p)
+        by None = record { rails = known.rails; count = known.count }
+        by (Some i) = record { rails = known.rails; count = known.count }
 
       module _ (mid after : Hands) (mid_board : mid.board ≡ first.board) (same : after.board ≡ first.board) (bus bus' : Bus) where
         -- the memory was out on the way
         pub left : (made : ℕ) → WentDown mid after bus bus' made None less (chain_off mid.board less (chain mid.board r)) → IsLeft call (placed first names worker) (placed after names worker) bus bus' plain
-        left made down = record {
-          made = made;
-          within = subst (λ (ms : List Move). made ≤ length ms) (sym plan_is) went.within;
-          shows = subst (λ (ms : List Move). Shows after (with_changed (after_first first.board plain made (take made ms)) worker handle one_less)) (sym plan_is)
-              (subst (λ (now : Plain). Shows after (with_changed now worker handle one_less)) (sym so_far) went.shows);
-          names = refl;
-          tells = subst (λ (ms : List Move). Tells (updates_of first.board (take made ms)) false bus bus') (sym plan_is) went.tells;
-        }
-          where
-            went : WentDown (record mid { board = first.board }) after bus bus' made None less moves
-            went = subst (λ (b : Board). WentDown (record mid { board = b }) after bus bus' made None less (chain_off b less (chain b r))) mid_board down
-
-            long : length (take made moves) ≡ made
-            long = length-take-le made moves went.within
-
-            so_far : after_first first.board plain made (take made moves) ≡ raised first.board plain (take made moves)
-            so_far =
-                after_first-down first.board valid.sound plain may_be.inv.kept.regs may_be.hold made (take made moves) (take made rails) (first_switches made) (slice_get_past (take made moves) made (omega (arith, long)))
-                ∙ ap (raised first.board plain) (take_all made (take made moves) (omega (arith, long)))
-
-        module _ (keep : Bool) (said : Answer) (writes : List Write) (down : Fell (record mid { board = first.board }) after bus bus' keep said writes less moves) where
-          abbrev made : ℕ
-          made = down.made
-
-          leaves_by : (stop : Option ℕ) (now : Plain) → answer first.board plain worker call stop ≡ (said, with_changed now worker handle one_less) → IsWithinPlan stop (plan first.board plain worker call)
-              → now.handles ≡ plain.handles → Shows after (with_changed now worker handle one_less) → MayBe (placed after names worker) (answer first.board plain worker call stop).1
-          leaves_by stop now is within handles shows = subst (MayBe (placed after names worker)) (sym (ap (λ (p : Answer × Plain). p.1) is)) (record {
-            inv = subst (λ (b : Board). Inv b (with_changed now worker handle one_less)) (sym same)
-                (subst (Inv first.board) (ap (λ (p : Answer × Plain). p.1) is) (handle_calls_keep_inv_lem first.board plain worker call stop valid untied no_loads may_be.hold may_be.inv tt tt within));
-            hold = subst (λ (b : Board). HoldFields b now.regs) (sym same)
-                (subst (λ (p : Plain). HoldFields first.board p.regs) (ap (λ (p : Answer × Plain). p.1) is) (handle_calls_keep_fields_lem first.board plain worker call stop valid untied no_loads may_be.hold may_be.inv tt within));
-            shows = shows;
-            knows = knows_less (with_changed now worker handle one_less) (ap (λ handles. with_row handles worker handle.bytes one_less) handles);
-          })
-
-          -- all went down
-          module _ (none : down.refused ≡ None) where
-            taken : take made moves ≡ moves
-            taken = take_all made moves (let all = down.came.all none in omega (arith, all))
-
-            done_is : answer first.board plain worker call None ≡ (said, with_changed (raised first.board plain moves) worker handle one_less)
-            done_is =
-                answer_is None
-                ∙ ap (λ (now : Plain). (Ok, with_changed now worker handle one_less))
-                (after_first-down first.board valid.sound plain may_be.inv.kept.regs may_be.hold (length moves) moves rails switches (slice_get_past moves (length moves) (omega arith))
-                ∙ ap (raised first.board plain) (take_all (length moves) moves (omega arith)))
-                ∙ ap (λ (a : Answer). (a, with_changed (raised first.board plain moves) worker handle one_less)) (sym (down.done none))
-
-            done_shows : Shows after (raised first.board less moves)
-            done_shows =
-                subst (λ (ms : List Move). Shows after (raised first.board less ms)) taken
-                (subst (λ (o : Option ℕ). Shows after (with_abort (raised first.board less (take made moves)) o)) none down.came.went.shows)
-
-            pub done_exact : IsExact call (placed first names worker) (placed after names worker) bus bus' keep said writes plain
-            done_exact = subst (λ (a : Answer). (answer first.board plain worker call None ≡ (a, with_changed (raised first.board plain moves) worker handle one_less))
-                → MayBe (placed after names worker) (answer first.board plain worker call None).1 → IsExact call (placed first names worker) (placed after names worker) bus bus' keep a writes plain) (sym (down.done none))
-                (λ is leaves. record {
-                  answered = ap (λ (p : Answer × Plain). p.0) is;
-                  leaves = leaves;
-                  took = record {
-                    within = tt;
-                    tells = subst (λ (ms : List Move). Tells (updates_of first.board ms) false bus bus') (taken ∙ sym plan_is)
-                        (subst (λ (o : Option ℕ). Tells (updates_of first.board (take made moves)) (is_some o) bus bus') none down.came.went.tells);
-                  };
-                  kept = down.kept ∙ ap (λ (ms : List Move). if keep then writes_of first.board ms else []) (taken ∙ sym plan_is);
-                })
-                done_is (leaves_by None (raised first.board plain moves) done_is tt refl done_shows)
-
-          -- the bus refused a rail
-          module _ (i : ℕ) (some : down.refused ≡ Some i) where
-            abbrev rail : Rail
-            rail = (down.fault i some).0
-
-            at_i : slice_get first.board.rails i ≡ Some rail
-            at_i = (down.fault i some).1
-
-            says_so : said ≡ Fault rail.desc.enable.chip rail.desc.enable.reg made []
-            says_so = (down.fault i some).2
-
-            next : slice_get moves made ≡ Some (switch 0 i)
-            next = down.came.next i some
-
-            abbrev reached : Plain
-            reached = with_abort (raised first.board plain (take made moves)) (Some i)
-
-            write_is : unwrap_or (slice_get (writes_of first.board moves) made) no_write ≡ update_of_field (Some rail.desc.enable) 0
-            write_is =
-                ap (λ o. unwrap_or o no_write) (slice_get-map _ moves made ∙ ap (option_map _) next)
-                ∙ ap (λ o. update_of_field (option_and_then (part_field EnableBit) o) 0) at_i
-
-            none_moved : changed_rails first.board plain.regs reached.regs ≡ []
-            none_moved =
-                ap (map _) (none_changed plain.regs reached.regs 0 first.board.rails
-                (stands_down first.board valid.sound plain may_be.inv.kept.regs may_be.hold (take made moves) (take made rails) (first_switches made)))
-
-            stopped_is : answer first.board plain worker call (Some made) ≡ (said, with_changed reached worker handle one_less)
-            stopped_is =
-                answer_is (Some made)
-                ∙ ap (λ (now : Plain). (fault first.board plain now (unwrap_or (slice_get (writes_of first.board moves) made) no_write) made, with_changed now worker handle one_less))
-                (after_first-refused first.board valid.sound plain may_be.inv.kept.regs may_be.hold made moves rails switches i next)
-                ∙ ap (λ (write : Write). (Fault write.chip write.reg made (changed_rails first.board plain.regs reached.regs), with_changed reached worker handle one_less)) write_is
-                ∙ ap (λ (moved : _). (Fault rail.desc.enable.chip rail.desc.enable.reg made moved, with_changed reached worker handle one_less)) none_moved
-                ∙ ap (λ (a : Answer). (a, with_changed reached worker handle one_less)) (sym says_so)
-
-            in_plan : IsWithinPlan (Some made) (plan first.board plain worker call)
-            in_plan = subst (λ (ms : List Move). made < length ms) (sym plan_is) (slice_get_within moves made (switch 0 i) next)
-
-            refused_shows : Shows after (with_abort (raised first.board less (take made moves)) (Some i))
-            refused_shows = subst (λ (o : Option ℕ). Shows after (with_abort (raised first.board less (take made moves)) o)) some down.came.went.shows
-
-            pub refused_exact : IsExact call (placed first names worker) (placed after names worker) bus bus' keep said writes plain
-            refused_exact = subst (λ (a : Answer). (answer first.board plain worker call (Some made) ≡ (a, with_changed reached worker handle one_less))
-                → MayBe (placed after names worker) (answer first.board plain worker call (Some made)).1 → IsExact call (placed first names worker) (placed after names worker) bus bus' keep a writes plain) (sym says_so)
-                (λ is leaves. record {
-                  answered = ap (λ (p : Answer × Plain). p.0) is;
-                  leaves = leaves;
-                  took = record {
-                    within = in_plan;
-                    tells = subst (λ (ms : List Move). Tells (updates_of first.board (take made ms)) true bus bus') (sym plan_is)
-                        (subst (λ (o : Option ℕ). Tells (updates_of first.board (take made moves)) (is_some o) bus bus') some down.came.went.tells);
-                  };
-                  kept = down.kept ∙ ap (λ (ms : List Move). if keep then writes_of first.board (take made ms) else []) (sym plan_is);
-                })
-                stopped_is (leaves_by (Some made) reached stopped_is in_plan refl refused_shows)
-
-          by : (o : Option ℕ) → down.refused ≡ o → IsExact call (placed first names worker) (placed after names worker) bus bus' keep said writes plain
-          by None none = done_exact none
-          by (Some i) some = refused_exact i some
+        left =
+            left_down first names worker call valid untied no_loads plain may_be (λ now. with_changed now worker handle one_less) (λ b. chain_off b less (chain b r)) (rails_of_moves moves) tt tt free plan_is switches
+            (λ now. refl) (λ now. refl) (λ now. refl) commutes knows mid after mid_board same bus bus'
 
         -- the call is exact, however far the rails went down
         pub fell_exact : (keep : Bool) (said : Answer) (writes : List Write) → Fell mid after bus bus' keep said writes less (chain_off mid.board less (chain mid.board r))
             → IsExact call (placed first names worker) (placed after names worker) bus bus' keep said writes plain
-        fell_exact keep said writes fell =
-            let down : Fell (record mid { board = first.board }) after bus bus' keep said writes less moves =
-            subst (λ (b : Board). Fell (record mid { board = b }) after bus bus' keep said writes less (chain_off b less (chain b r))) mid_board fell in
-            by keep said writes down down.refused refl
+        fell_exact =
+            down_exact first names worker call valid untied no_loads plain may_be (λ now. with_changed now worker handle one_less) (λ b. chain_off b less (chain b r)) (rails_of_moves moves) tt tt free plan_is switches
+            (λ now. refl) (λ now. refl) (λ now. refl) commutes knows mid after mid_board same bus bus'

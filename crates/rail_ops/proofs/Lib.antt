@@ -12,12 +12,15 @@ pub mod Exactly
 pub mod CameUp
 pub mod Ways
 pub mod WayDown
+pub mod SweepDown
 pub mod OneRow
 pub mod OneMore
 pub mod GoneDown
 pub mod Lowered
+pub mod FallExact
 pub mod GivenUp
 pub mod Disabled
+pub mod Released
 pub mod Chains
 pub mod AloneFields
 pub mod ForeignBits

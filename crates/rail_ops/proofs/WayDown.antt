@@ -142,8 +142,8 @@ module _ (first : Hands) (board : Board) (here : first.board ≡ board) (valid :
 
             pub goes_further : (refused : Option ℕ) → WentDown mid after bus' bus'' made refused (raised first.board plain (switch 0 r ∷ [])) (chain_off mid.board (raised first.board plain (switch 0 r ∷ [])) higher)
                 → WentDown first after bus bus'' (made + 1) refused plain (moves plain)
-            goes_further = went_on first mid after (step.board ∙ same.board) bus bus' bus'' plain r (moves plain) higher are told_first made
+            goes_further = went_on first mid after (step.board ∙ same.board) bus bus' bus'' plain r (moves plain) (λ (b : Board). chain_off b (raised first.board plain (switch 0 r ∷ [])) higher) are told_first made
 
             pub comes_further : (refused : Option ℕ) → CameDown mid after bus' bus'' made refused (raised first.board plain (switch 0 r ∷ [])) (chain_off mid.board (raised first.board plain (switch 0 r ∷ [])) higher)
                 → CameDown first after bus bus'' (made + 1) refused plain (moves plain)
-            comes_further = came_on first mid after (step.board ∙ same.board) bus bus' bus'' plain r (moves plain) higher are told_first made
+            comes_further = came_on first mid after (step.board ∙ same.board) bus bus' bus'' plain r (moves plain) (λ (b : Board). chain_off b (raised first.board plain (switch 0 r ∷ [])) higher) are told_first made

@@ -8,3 +8,4 @@ pub mod Alone
 pub mod AloneLaws
 pub mod Enabling
 pub mod Disabling
+pub mod Releasing

@@ -8,6 +8,7 @@ mod enabling;
 mod falling;
 mod looking;
 mod outcome;
+mod releasing;
 mod rising;
 mod switching;
 
