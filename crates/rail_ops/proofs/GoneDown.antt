@@ -29,15 +29,12 @@ chain_front board plain (r ∷ above) (suc made) within = by (is_idle board plai
   by true further within = ap (λ moves. switch 0 r ∷ moves) (further (omega (arith, within)))
   by false further within = absurd (omega (arith, within))
 
-module _ (first after : Hands) (bus bus' : Bus) (keep : Bool) (said : Answer) (writes : List Write) (plain : Plain) (board : Board) (here : first.board ≡ board) (r made : ℕ) where
-  abbrev moves : List Move
-  moves = chain_off first.board plain (chain board r)
-
-  -- the answer and the writes of a chain that went down
-  pub fell : (o : Option RailId) → CameDown first after bus bus' made (option_map (λ (id : RailId). id.0) o) plain moves → (o ≡ None → said ≡ Ok)
+module _ (first after : Hands) (bus bus' : Bus) (keep : Bool) (said : Answer) (writes : List Write) (plain : Plain) (board : Board) (here : first.board ≡ board) (made : ℕ) where
+  -- the answer and the writes of rails that went down
+  pub fell_with : (moves : List Move) (o : Option RailId) → CameDown first after bus bus' made (option_map (λ (id : RailId). id.0) o) plain moves → (o ≡ None → said ≡ Ok)
       → ((id : RailId) (rail : Rail) → o ≡ Some id → slice_get board.rails id.0 ≡ Some rail → said ≡ Fault rail.desc.enable.chip rail.desc.enable.reg made [])
-      → IfSome o (λ id. id.0 < length board.rails) → writes ≡ take made (if keep then writes_of board (map (switch 0) (chain board r)) else []) → Fell first after bus bus' keep said writes plain moves
-  fell o came done fault there kept = record {
+      → IfSome o (λ id. id.0 < length board.rails) → writes ≡ (if keep then writes_of first.board (take made moves) else []) → Fell first after bus bus' keep said writes plain moves
+  fell_with moves o came done fault there kept = record {
     made = made;
     refused = option_map (λ (id : RailId). id.0) o;
     came = came;
@@ -47,11 +44,19 @@ module _ (first after : Hands) (bus bus' : Bus) (keep : Bool) (said : Answer) (w
         let inside : some.0.0 < length board.rails = subst (λ (p : Option RailId). IfSome p (λ id. id.0 < length board.rails)) some.1 there in
         let rail = element board.rails some.0.0 inside in
         (rail.0, ap (λ (b : Board). slice_get b.rails i) here ∙ ap (slice_get board.rails) (sym some.2) ∙ rail.1, fault some.0 rail.0 some.1 rail.1);
-    kept =
-        kept ∙ writes_taken board keep (map (switch 0) (chain board r)) made
-        ∙ ap (λ (ms : List Move). if keep then writes_of board ms else []) (chain_front first.board plain (chain board r) made came.went.within)
-        ∙ ap (λ (b : Board). if keep then writes_of b (take made moves) else []) (sym here);
+    kept = kept;
   }
+
+  -- those of a chain
+  pub fell : (r : ℕ) (o : Option RailId) → CameDown first after bus bus' made (option_map (λ (id : RailId). id.0) o) plain (chain_off first.board plain (chain board r)) → (o ≡ None → said ≡ Ok)
+      → ((id : RailId) (rail : Rail) → o ≡ Some id → slice_get board.rails id.0 ≡ Some rail → said ≡ Fault rail.desc.enable.chip rail.desc.enable.reg made [])
+      → IfSome o (λ id. id.0 < length board.rails) → writes ≡ take made (if keep then writes_of board (map (switch 0) (chain board r)) else [])
+      → Fell first after bus bus' keep said writes plain (chain_off first.board plain (chain board r))
+  fell r o came done fault there kept =
+      fell_with (chain_off first.board plain (chain board r)) o came done fault there
+      (kept ∙ writes_taken board keep (map (switch 0) (chain board r)) made
+      ∙ ap (λ (ms : List Move). if keep then writes_of board ms else []) (chain_front first.board plain (chain board r) made came.went.within)
+      ∙ ap (λ (b : Board). if keep then writes_of b (take made (chain_off first.board plain (chain board r))) else []) (sym here))
 
 -- the writes that switch off a rail and those above it: first the rail's
 pub writes_down : (board : Board) (r : ℕ) (rail : Rail) → slice_get board.rails r ≡ Some rail → (above : List ℕ) (before : List Write)

@@ -18,7 +18,7 @@ use Rattle.board.specs.declared.write.Write.{Write}
 use Rattle.board.specs.Fields.{field_at}
 use Rattle.board.specs.Valid.{IsValid}
 use Rattle.rail_law.proofs.Members.{All-flat_map}
-use Rattle.rail_law.specs.Moves.{Move}
+use Rattle.rail_law.specs.Moves.{Move, writes_of}
 use Rattle.rail_state.specs.Sight.{IsGuarded, IsOwned}
 use Rattle.rail_state.proofs.Members.{Contains-from_filter}
 use Rattle.rows.specs.declared.answer.Answer.{Answer}
@@ -137,6 +137,39 @@ sighted_released first mid board here plain sighted holds ends = record {
           ends.others i past ∙ sighted.shows.books i has
           ∙ ap (λ t. record (book first.board plain i) { held = t }) (none ∙ sym (left_hold plain.holds first.board.rails i ∙ ap (λ t. t && is_always first.board i) none))
     ]
+
+-- what went down from one sight went down from another that shows the same board, over the whole order
+module _ (first mid after : Hands) (board : Board) (here : first.board ≡ board) (mid_board : mid.board ≡ first.board) (bus bus' : Bus) (plain : Plain) (left : ℕ) (whole : left ≡ length board.order) where
+  abbrev moves_at : Board → List Move
+  moves_at b = sweep_off b plain (reverse (take left board.order))
+
+  same_moves : moves_at mid.board ≡ sweep_off first.board plain (reverse first.board.order)
+  same_moves =
+      ap (λ (b : Board). sweep_off b plain (reverse (take left board.order))) mid_board
+      ∙ ap (λ (order : List ℕ). sweep_off first.board plain (reverse order)) (take_all left board.order (omega (arith, whole)) ∙ ap (λ (b : Board). b.order) (sym here))
+
+  pub swept_left : (made : ℕ) (refused : Option ℕ) → WentDown mid after bus bus' made refused plain (moves_at mid.board) → WentDown first after bus bus' made refused plain (sweep_off first.board plain (reverse first.board.order))
+  swept_left made refused went =
+      let moved : WentDown (record mid { board = first.board }) after bus bus' made refused plain (sweep_off first.board plain (reverse first.board.order)) =
+      subst (λ (b : Board). WentDown (record mid { board = b }) after bus bus' made refused plain (sweep_off first.board plain (reverse first.board.order))) mid_board
+      (subst (λ (ms : List Move). WentDown mid after bus bus' made refused plain ms) same_moves went) in
+      record { within = moved.within; shows = moved.shows; tells = moved.tells }
+
+  pub swept : (keep : Bool) (said : Answer) (writes : List Write) → Fell mid after bus bus' keep said writes plain (moves_at mid.board) → Fell first after bus bus' keep said writes plain (sweep_off first.board plain (reverse first.board.order))
+  swept keep said writes fell = record {
+    made = fell.made;
+    refused = fell.refused;
+    came = record {
+      went = swept_left fell.made fell.refused fell.came.went;
+      all = λ none. fell.came.all none ∙ ap (λ (ms : List Move). length ms) same_moves;
+      next = λ i is. ap (λ (ms : List Move). slice_get ms fell.made) (sym same_moves) ∙ fell.came.next i is;
+    };
+    done = fell.done;
+    fault = λ i is. let told = fell.fault i is in (told.0, ap (λ (b : Board). slice_get b.rails i) (sym mid_board) ∙ told.1, told.2);
+    kept =
+        fell.kept ∙ ap (λ (b : Board). if keep then writes_of b (take fell.made (moves_at mid.board)) else []) mid_board
+        ∙ ap (λ (ms : List Move). if keep then writes_of first.board (take fell.made ms) else []) same_moves;
+  }
 
 module _ (first : Hands) (names : List (List ℕ × ℕ)) (worker : ℕ) (valid : IsValid first.board) (untied : IsUntied first.board) (no_loads : CountsNoLoads first.board)
     (ready : IsReady (placed first names worker) ReleaseBoot) where

@@ -40,7 +40,7 @@ returns-clause-fell g c plain sighted =
     let bus = told_by g.W.Wire.accepted g.W.Wire.plan g.W.Wire.faults c.args.wire.now in
     let bus' = told_by g.W.Wire.accepted g.W.Wire.plan g.W.Wire.faults c.go_down.new.wire in
     let refused = option_map (λ (id : RailId). id.0) c.in_ok-fall.fall.refused in
-    fell first after bus bus' c.args.keep c.answer_of.result c.from_vec.result plain c.args.board.now c.requires.board c.args.r.0 c.in_ok-fall.fall.made c.in_ok-fall.fall.refused
+    fell first after bus bus' c.args.keep c.answer_of.result c.from_vec.result plain c.args.board.now c.requires.board c.in_ok-fall.fall.made c.args.r.0 c.in_ok-fall.fall.refused
     (subst (λ (n : ℕ). CameDown first after bus bus' c.in_ok-fall.fall.made refused plain (chain_off first.board plain (upward c.args.board.now.graph n (Some c.args.r.0)))) c.len.ensures
     (c.in_ok-fall.ensures.falls plain sighted))
     c.answer_of.ensures.done c.answer_of.ensures.fault c.in_ok-fall.ensures.there
