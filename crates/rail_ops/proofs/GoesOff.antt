@@ -34,9 +34,12 @@ use Rattle.rail_ops.proofs.Upheld.{enable_has_room, for_supply}
 
 -- a rail that is held guards those that it supplies
 pub guards_supplied : (board : Board) → IsValid board → (rails : List ℕ) (r lower : ℕ) → r < length board.rails → Contains rails r → supply_at board.graph lower ≡ Some r → IsGuarded board rails lower
-guards_supplied board valid rails r lower inside held supplied =
-    (r, held, Contains-filter (λ i. is_guard_of board.graph i lower) (rails_of board.graph) r (of_graph board valid r inside)
-    (or_left _ _ (ap (λ o. option_map_or (eqb r) o false) supplied ∙ eq-eqb r r refl)))
+guards_supplied board valid rails r lower inside held supplied = (
+  r,
+  held,
+  Contains-filter (λ i. is_guard_of board.graph i lower) (rails_of board.graph) r (of_graph board valid r inside)
+      (or_left _ _ (ap (λ o. option_map_or (eqb r) o false) supplied ∙ eq-eqb r r refl)),
+)
 
 -- whatever stands in the fields that can't be seen, the law holds once the rail is off
 module _ (hands : Hands) (valid : IsValid hands.board) (untied : IsUntied hands.board) (places : HavePlaces hands.board) (r : ℕ) (rail : Rail) (at : slice_get hands.board.rails r ≡ Some rail) (held : Contains hands.rails r) (free : MayGoOff hands r) where

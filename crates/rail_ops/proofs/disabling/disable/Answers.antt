@@ -1,4 +1,4 @@
-use Rattle.std.proofs.Common.{◌≡◌, ◌<◌, ℕ, List, [], Option, Some, refl, sym, ap, ◌∙◌, subst, slice_get, length, All}
+use Rattle.std.proofs.Common.{◌≡◌, ℕ, List, Some, refl, sym, ap, ◌∙◌, subst, slice_get, All}
 use Rattle.std.specs.Prelude.{Contains, IsSome, option_map, position}
 use Rattle.std.proofs.lemmas.Result.{IfOk-weaker, on_err_weaker}
 use Rattle.reg_outside.specs.Bus.{told_by}
@@ -12,12 +12,11 @@ use Rattle.plain_board.specs.declared.plain.Plain.{Plain}
 use Rattle.plain_board.specs.Plan.{chain, chain_off}
 use Rattle.plain_board.proofs.KeptDisable.{given_up}
 use Rattle.rail_ops.specs.declared.outcome.Outcome.{Outcome}
-use Rattle.rail_ops.specs.Exact.{IsExact, Leaves, Performs}
+use Rattle.rail_ops.specs.Exact.{IsExact, Performs}
 use Rattle.rail_ops.specs.Sight.{placed, shown_by}
 use Rattle.rail_ops.specs.Inside.Disabling.{disable_refusal}
-use Rattle.rail_ops.specs.Inside.Falling.{Fell, IsSighted, WentDown}
-use Rattle.rail_ops.proofs.Disabled.{all_placed, exact_so, has_enable, holds_chain, holds_rail, inside_board, left_so, owns_chain, place_within, refused_so, row_seen, sighted_so}
-use Rattle.rail_ops.proofs.GivenUp.{unnamed_refused}
+use Rattle.rail_ops.specs.Inside.Falling.{Fell, IsSighted}
+use Rattle.rail_ops.proofs.Disabled.{exact_so, has_enable, holds_chain, holds_rail, inside_board, left_so, owns_chain, refused_so, row_seen, sighted_so}
 use Rattle.rail_ops.proofs.disabling.disable.Goals as goal
 
 pub state-requires-clause-held : goal.state-requires-clause-held

@@ -1,4 +1,4 @@
-use Rattle.std.proofs.Common.{◌≡◌, ◌<◌, ◌+◌, ◌-◌, ℕ, List, sym, ap, ◌∙◌, subst, arith, length, get_or}
+use Rattle.std.proofs.Common.{◌-◌, ℕ, List, sym, ap, arith, get_or}
 use Rattle.rail_ops.proofs.Released.{from_behind, last_there}
 use Rattle.rail_ops.proofs.releasing.last_of.Goals as goal
 

@@ -1,8 +1,7 @@
-use Rattle.std.proofs.Common.{◌≡◌, ◌<◌, ℕ, List, [], Option, Some, None, sym, ap, ◌∙◌, subst, length}
-use Rattle.std.specs.Prelude.{Contains, option_map, ◌++◌, if◌then◌else◌, take, reverse}
+use Rattle.std.proofs.Common.{ℕ, List, [], None, sym, ap, ◌∙◌, subst}
+use Rattle.std.specs.Prelude.{Contains, ◌++◌, if◌then◌else◌, take, reverse}
 use Rattle.std.proofs.lemmas.Result.{err_from_is_err_and}
 use Rattle.reg_outside.specs.Bus.{told_by}
-use Rattle.board.specs.declared.rail_id.RailId.{RailId}
 use Rattle.board.specs.declared.write.Write.{Write}
 use Rattle.rail_law.specs.Moves.{writes_of}
 use Rattle.plain_board.specs.Plan.{sweep_off}
