@@ -8,11 +8,11 @@ use Rattle.plain_board.specs.Handles.{Entry, count_own}
 use Rattle.plain_board.specs.Refusals.{most_handles}
 
 -- 1 where it is so
-abbrev one_if : Bool → ℕ
+abbrev pub one_if : Bool → ℕ
 one_if t = cond t 1 0
 
 -- how many handles are of the workers below n
-abbrev below : ℕ → List Entry → ℕ
+abbrev pub below : ℕ → List Entry → ℕ
 below n es = count_by (λ (e : Entry). ltb e.1.worker n) es
 
 -- a worker below the next number is that one or below it
@@ -41,13 +41,13 @@ none_below [] = refl
 none_below (e ∷ es) =
     sum_by-cons (λ (x : Entry). one_if (ltb x.1.worker 0)) e es ∙ ap (λ t. one_if t + below 0 es) (le-ltb e.1.worker 0 (omega arith)) ∙ ap (λ n. 0 + n) (none_below es) ∙ refl
 
-few_below : (es : List Entry) → ((worker : ℕ) → count_own es worker ≤ most_handles) → (n : ℕ) → below n es ≤ 64 * n
+pub few_below : (es : List Entry) → ((worker : ℕ) → count_own es worker ≤ most_handles) → (n : ℕ) → below n es ≤ 64 * n
 few_below es few zero = omega (arith, none_below es)
 few_below es few (suc n) =
     let same : below (suc n) es ≡ below (n + 1) es = ap (λ m. below m es) (omega arith) in
     omega (arith, same, one_more es n, few_below es few n, few n)
 
-all_below : (es : List Entry) (n : ℕ) → All (λ (e : Entry). e.1.worker < n) es → below n es ≡ length es
+pub all_below : (es : List Entry) (n : ℕ) → All (λ (e : Entry). e.1.worker < n) es → below n es ≡ length es
 all_below [] n all = refl
 all_below (e ∷ es) n all =
     let here : one_if (ltb e.1.worker n) ≡ 1 = ap one_if (lt-ltb e.1.worker n (All-head (λ (x : Entry). x.1.worker < n) e es all)) in

@@ -68,7 +68,7 @@ not_moved board regs r (k ∷ above) apart =
     by true false is = rw is refl
 
 -- where two functions agree but for one place their sums differ by what they differ there
-sum_but_one : {X : Type 0} (f g : X → ℕ) (xs : List X) (r : ℕ) (x : X) → slice_get xs r ≡ Some x → ((k : ℕ) (y : X) → slice_get xs k ≡ Some y → (r ≡ k → ⊥) → f y ≡ g y)
+pub sum_but_one : {X : Type 0} (f g : X → ℕ) (xs : List X) (r : ℕ) (x : X) → slice_get xs r ≡ Some x → ((k : ℕ) (y : X) → slice_get xs k ≡ Some y → (r ≡ k → ⊥) → f y ≡ g y)
     → sum_by f xs + g x ≡ sum_by g xs + f x
 sum_but_one f g [] r x at others = absurd (cc)
 sum_but_one f g (y ∷ ys) zero x at others =
@@ -106,7 +106,7 @@ delay_more board first before after r rail at was before_off now others =
     omega (arith, sums, up, still)
 
 -- the wire took some updates, and then more
-tells_then : (first second : Updates) (stopped : Bool) (bus mid bus' : Bus) → Tells first false bus mid → Tells second stopped mid bus' → Tells (first ++ second) stopped bus bus'
+pub tells_then : (first second : Updates) (stopped : Bool) (bus mid bus' : Bus) → Tells first false bus mid → Tells second stopped mid bus' → Tells (first ++ second) stopped bus bus'
 tells_then first second stopped bus mid bus' one two = record {
   taken = two.taken ∙ ap (λ told. with_more told second) one.taken ∙ with_more-with_more bus.taken first second;
   faults = subst (λ n. Counts stopped n bus'.faults) one.faults two.faults;

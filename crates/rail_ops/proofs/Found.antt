@@ -40,7 +40,7 @@ pub some_of : {X Y : Type 0} (f : X → Y) (o : Option X) (y : Y) → option_map
 some_of f None y is = absurd cc
 some_of f (Some x) y is = (x, refl, same_Some (f x) y is)
 
-none_of : {X Y : Type 0} (f : X → Y) (o : Option X) → option_map f o ≡ None → o ≡ None
+pub none_of : {X Y : Type 0} (f : X → Y) (o : Option X) → option_map f o ≡ None → o ≡ None
 none_of f None is = refl
 none_of f (Some x) is = absurd cc
 

@@ -63,7 +63,7 @@ reason_by false false true overloaded sum none = absurd (cc)
 reason_by false false false overloaded sum none = refl
 
 -- the rails whose value changed, where none did
-none_changed : (before now : List (List ℕ)) (from : ℕ) (rails : List Rail) → ((k : ℕ) (rail : Rail) → slice_get rails k ≡ Some rail → uv rail now ≡ uv rail before)
+pub none_changed : (before now : List (List ℕ)) (from : ℕ) (rails : List Rail) → ((k : ℕ) (rail : Rail) → slice_get rails k ≡ Some rail → uv rail now ≡ uv rail before)
     → filter (λ (rail : ℕ × Rail). not (uv rail.1 before == uv rail.1 now)) (enumerate_from from rails) ≡ []
 none_changed before now from [] same = refl
 none_changed before now from (rail ∷ rest) same =

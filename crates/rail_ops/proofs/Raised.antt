@@ -34,18 +34,18 @@ module _ (more : ℕ → List Event) where
   more_told_past events i past = get_or_past (with_more_told 0 events) i [] (omega (arith, past, more_told_rails events))
 
 -- nothing more
-none_more : (from : ℕ) (events : List (List Event)) → with_more_told (λ i. []) from events ≡ events
+pub none_more : (from : ℕ) (events : List (List Event)) → with_more_told (λ i. []) from events ≡ events
 none_more from [] = refl
 none_more from (told ∷ rest) = ap (λ first. first ∷ with_more_told (λ i. []) (from + 1) rest) (append-nil told) ∙ ap (λ further. told ∷ further) (none_more (from + 1) rest)
 
 -- the same more
-same_more : (f g : ℕ → List Event) → ((i : ℕ) → f i ≡ g i) → (from : ℕ) (events : List (List Event)) → with_more_told f from events ≡ with_more_told g from events
+pub same_more : (f g : ℕ → List Event) → ((i : ℕ) → f i ≡ g i) → (from : ℕ) (events : List (List Event)) → with_more_told f from events ≡ with_more_told g from events
 same_more f g same from [] = refl
 same_more f g same from (told ∷ rest) =
     ap (λ more. (told ++ more) ∷ with_more_told f (from + 1) rest) (same from) ∙ ap (λ further. (told ++ g from) ∷ further) (same_more f g same (from + 1) rest)
 
 -- more, and more again
-twice_more : (f g : ℕ → List Event) (from : ℕ) (events : List (List Event)) → with_more_told g from (with_more_told f from events) ≡ with_more_told (λ i. f i ++ g i) from events
+pub twice_more : (f g : ℕ → List Event) (from : ℕ) (events : List (List Event)) → with_more_told g from (with_more_told f from events) ≡ with_more_told (λ i. f i ++ g i) from events
 twice_more f g from [] = refl
 twice_more f g from (told ∷ rest) =
     ap (λ first. first ∷ with_more_told g (from + 1) (with_more_told f (from + 1) rest)) (append_assoc told (f from) (g from))
@@ -66,7 +66,7 @@ module _ (board : Board) (plain : Plain) where
       (λ i. sym (flat_map-append (events_of_move i true) first second)) 0 plain.events)
 
 -- a rail that stays where it is tells nothing of its voltage
-still_tells_nothing : (before goal now : ℕ) → goal ≡ before → voltage_events before goal now ≡ []
+pub still_tells_nothing : (before goal now : ℕ) → goal ≡ before → voltage_events before goal now ≡ []
 still_tells_nothing before goal now same = rw (eq-eqb before goal (sym same)) refl
 
 -- a refused on write tells nothing

@@ -1,8 +1,8 @@
--- What the worker sees after a rail was switched on is of the plain board after that move.
-use Rattle.std.proofs.Common.{◌≡◌, ◌≢◌, ◌⊎◌, ℕ, zero, suc, ◌+◌, ◌<◌, ◌&&◌, Bool, true, false, cond, List, [], ◌∷◌, ◌++◌, Option, Some, None, inl, inr, refl, sym, ap, ◌∙◌, subst, arith, length, eqb, slice_get}
+-- What the worker sees after a rail was switched is of the plain board after that move.
+use Rattle.std.proofs.Common.{◌≡◌, ◌≢◌, ◌⊎◌, ℕ, zero, suc, ◌+◌, ◌-◌, ◌<◌, ◌≤◌, ◌&&◌, Bool, true, false, cond, List, [], ◌∷◌, ◌++◌, Option, Some, None, inl, inr, refl, sym, ap, ◌∙◌, subst, arith, length, eqb, slice_get}
 use Rattle.std.specs.Prelude.{Contains, slice_index_or, flat_map, option_and_then}
 use Rattle.std.specs.Option.{option_map}
-use Rattle.std.proofs.lemmas.Bool.{cases_eq, cases_lt, eq-eqb, eqb-true, both_ways}
+use Rattle.std.proofs.lemmas.Bool.{cases_eq, cases_lt, eq-eqb, eqb-true, both_ways, false_from_ne_true}
 use Rattle.std.proofs.lemmas.List.{append-nil, get_or_past}
 use Rattle.std.proofs.lemmas.Option.{same_Some, slice_get-map, slice_get_within}
 use Rattle.chip_regs.specs.declared.field.Field.{Field}
@@ -11,7 +11,6 @@ use Rattle.chip_regs.proofs.Fields.{field_of-with_field, field_of-with_field_apa
 use Rattle.board_graph.specs.Graph.{supply_at}
 use Rattle.board.specs.declared.board.Board.{Board}
 use Rattle.board.specs.declared.event.Event.{Event}
-use Rattle.board.specs.declared.event.Event.TheVariants.{Enable as TellsEnable}
 use Rattle.board.specs.declared.part.Part.{Part}
 use Rattle.board.specs.declared.part.Part.TheVariants.{Selector, Enable as EnableBit, ModePart, SuspendEnable, SuspendSelector}
 use Rattle.board.specs.declared.rail.Rail.{Rail}
@@ -25,15 +24,15 @@ use Rattle.rail_state.specs.Sight.{IsGuarded}
 use Rattle.use_counts.specs.Book.{Book}
 use Rattle.plain_board.specs.declared.plain.Plain.{Plain}
 use Rattle.plain_board.specs.Counts.{is_supply, votes}
-use Rattle.plain_board.specs.Events.{events_of_move}
+use Rattle.plain_board.specs.Events.{events_of_move, switch_events}
 use Rattle.plain_board.specs.Plan.{switch}
 use Rattle.plain_board.specs.Seen.{book}
 use Rattle.plain_board.specs.Untied.{HoldFields}
 use Rattle.plain_board.proofs.ChainEnds.{ends, chain_ends}
 use Rattle.plain_board.proofs.MovedAlone.{all_at}
-use Rattle.plain_board.proofs.SwitchedVotes.{vote, votes_up}
+use Rattle.plain_board.proofs.SwitchedVotes.{votes_up, votes_down}
 use Rattle.rail_ops.specs.Sight.{Hands, Shows}
-use Rattle.rail_ops.specs.Inside.Raised.{raised, SwitchesOn}
+use Rattle.rail_ops.specs.Inside.Raised.{raised, Switches, SwitchesOff, SwitchesOn}
 use Rattle.rail_ops.proofs.Raised.{more_told_at, more_told_past}
 
 -- no rail is its own supply
@@ -61,40 +60,43 @@ on_bit_or ModePart = inr (λ same. absurd (cc))
 on_bit_or SuspendEnable = inr (λ same. absurd (cc))
 on_bit_or SuspendSelector = inr (λ same. absurd (cc))
 
--- the vote of a rail that is on, by its supply
-votes_for : (supply : Option RailId) (i : ℕ) → option_map (λ (s : RailId). s.0) supply ≡ Some i → cond {A = ℕ} (is_supply i supply && true) 1 0 ≡ 1
-votes_for None i is = absurd (cc)
-votes_for (Some s) i is = rw (eq-eqb s.0 i (same_Some s.0 i is)) refl
+-- a rail is the supply, or isn't
+supply_it : (supply : Option RailId) (i : ℕ) → option_map (λ (s : RailId). s.0) supply ≡ Some i → is_supply i supply ≡ true
+supply_it None i is = absurd (cc)
+supply_it (Some s) i is = eq-eqb s.0 i (same_Some s.0 i is)
 
-votes_not : (supply : Option RailId) (i : ℕ) → (option_map (λ (s : RailId). s.0) supply ≡ Some i → ⊥) → cond {A = ℕ} (is_supply i supply && true) 1 0 ≡ 0
-votes_not None i apart = refl
-votes_not (Some s) i apart = by (eqb s.0 i) refl where
-  by : (t : Bool) → eqb s.0 i ≡ t → cond {A = ℕ} (t && true) 1 0 ≡ 0
-  by true is = absurd (apart (ap (λ (n : ℕ). Some n) (eqb-true s.0 i is)))
-  by false is = refl
+supply_not : (supply : Option RailId) (i : ℕ) → (option_map (λ (s : RailId). s.0) supply ≡ Some i → ⊥) → is_supply i supply ≡ false
+supply_not None i apart = refl
+supply_not (Some s) i apart = false_from_ne_true (eqb s.0 i) (λ is. apart (ap (λ (n : ℕ). Some n) (eqb-true s.0 i is)))
 
--- what a rail that was switched on tells, and the others
-tells_own : (r : ℕ) → flat_map (events_of_move r true) (switch 1 r ∷ []) ≡ TellsEnable ∷ []
-tells_own r = rw (eq-eqb r r refl) refl
+-- the votes for a rail with one more of a rail that it supplies, and with one less
+one_up : (t : Bool) (v w : ℕ) → w ≡ v + cond (t && true) 1 0 → w ≡ cond t (v + 1) v
+one_up true v w is = is
+one_up false v w is = omega (arith, is)
 
-tells_none : (r i : ℕ) → r ≢ i → flat_map (events_of_move i true) (switch 1 r ∷ []) ≡ []
-tells_none r i apart = by (eqb r i) refl where
-  by : (t : Bool) → eqb r i ≡ t → flat_map (λ (x : ℕ). cond {A = List Event} t (TellsEnable ∷ []) []) (r ∷ []) ≡ []
-  by true is = absurd (apart (eqb-true r i is))
-  by false is = refl
+one_down : (t : Bool) (v w : ℕ) → w + cond (t && true) 1 0 ≡ v → w ≡ cond t (v - 1) v
+one_down true v w is = omega (arith, is)
+one_down false v w is = omega (arith, is)
+
+-- what a rail that was switched tells, and the others
+tells_own : (bits r : ℕ) → flat_map (events_of_move r true) (switch bits r ∷ []) ≡ switch_events true bits EnableBit
+tells_own bits r = ap (λ (t : Bool). cond t (switch_events true bits EnableBit) [] ++ []) (eq-eqb r r refl) ∙ append-nil (switch_events true bits EnableBit)
+
+tells_none : (bits r i : ℕ) → r ≢ i → flat_map (events_of_move i true) (switch bits r ∷ []) ≡ []
+tells_none bits r i apart = ap (λ (t : Bool). cond t (switch_events true bits EnableBit) [] ++ []) (false_from_ne_true (eqb r i) (λ is. apart (eqb-true r i is)))
 
 module _ (before : Hands) (valid : IsValid before.board) (plain : Plain) (chips : length plain.regs ≡ before.board.chips) (hold : HoldFields before.board plain.regs) (rails : length plain.events ≡ length before.board.rails) where
-  module _ (r : ℕ) (rail : Rail) (at : slice_get before.board.rails r ≡ Some rail) where
+  module _ (r : ℕ) (rail : Rail) (at : slice_get before.board.rails r ≡ Some rail) (bits : ℕ) (one_bit : bits ≤ 1) where
     abbrev now : Plain
-    now = raised before.board plain (switch 1 r ∷ [])
+    now = raised before.board plain (switch bits r ∷ [])
 
-    regs_are : now.regs ≡ with_field plain.regs rail.desc.enable 1
-    regs_are = ap (λ o. written (option_and_then (part_field EnableBit) o) plain.regs 1) at
+    regs_are : now.regs ≡ with_field plain.regs rail.desc.enable bits
+    regs_are = ap (λ o. written (option_and_then (part_field EnableBit) o) plain.regs bits) at
 
     own_field : field_at before.board r EnableBit ≡ Some rail.desc.enable
     own_field = ap (option_and_then (part_field EnableBit)) at
 
-    can : CanPut plain.regs rail.desc.enable 1
+    can : CanPut plain.regs rail.desc.enable bits
     can =
         let own : IsSoundRail before.board.chips rail = all_at (IsSoundRail before.board.chips) before.board.rails r rail valid.sound.rails at in
         let placed : IsPlaced before.board.chips rail.desc.enable = own.desc.placed EnableBit in
@@ -103,33 +105,30 @@ module _ (before : Hands) (valid : IsValid before.board) (plain : Plain) (chips 
           chip = omega (arith, placed.chip, chips);
           reg = hold.places r EnableBit rail.desc.enable own_field;
           field = placed.shape;
-          room = omega (arith, own.desc.enable);
+          room = omega (arith, own.desc.enable, one_bit);
         }
 
-    pub on_now : field_of now.regs rail.desc.enable ≡ 1
-    on_now = ap (λ regs. field_of regs rail.desc.enable) regs_are ∙ field_of-with_field plain.regs rail.desc.enable 1 can
+    pub on_now : field_of now.regs rail.desc.enable ≡ bits
+    on_now = ap (λ regs. field_of regs rail.desc.enable) regs_are ∙ field_of-with_field plain.regs rail.desc.enable bits can
 
     pub field_kept : (j : ℕ) (part : Part) (field : Field) → field_at before.board j part ≡ Some field → (j ≡ r → part ≡ EnableBit → ⊥) → field_of now.regs field ≡ field_of plain.regs field
     field_kept j part field is other =
         ap (λ regs. field_of regs field) regs_are
-        ∙ field_of-with_field_apart plain.regs rail.desc.enable 1 field can (valid.sound.apart r j EnableBit part rail.desc.enable field apart own_field is)
+        ∙ field_of-with_field_apart plain.regs rail.desc.enable bits field can (valid.sound.apart r j EnableBit part rail.desc.enable field apart own_field is)
       where
         apart : (r ≢ j) ⊎ (EnableBit ≢ part)
         apart = elim (cases_eq r j) [ inl same ↦ inr (λ e. other (sym same) (sym e)) | inr away ↦ inl away ]
 
-    votes_now : is_on rail plain.regs ≡ false → (i : ℕ) → votes before.board now i ≡ votes before.board plain i + vote i rail true
-    votes_now off =
-        votes_up before.board plain now r rail at
-        (λ k other other_at apart. ap (λ n. eqb n 1) (field_kept k EnableBit other.desc.enable (ap (option_and_then (part_field EnableBit)) other_at) (λ same e. apart (sym same))))
-        off (ap (λ n. eqb n 1) on_now)
+    others_now : (k : ℕ) (other : Rail) → slice_get before.board.rails k ≡ Some other → (r ≡ k → ⊥) → is_on other now.regs ≡ is_on other plain.regs
+    others_now k other other_at apart = ap (λ n. eqb n 1) (field_kept k EnableBit other.desc.enable (ap (option_and_then (part_field EnableBit)) other_at) (λ same e. apart (sym same)))
 
-    events_now : (i : ℕ) → r < length before.board.rails → slice_index_or now.events i [] ≡ slice_index_or plain.events i [] ++ flat_map (events_of_move i true) (switch 1 r ∷ [])
+    events_now : (i : ℕ) → r < length before.board.rails → slice_index_or now.events i [] ≡ slice_index_or plain.events i [] ++ flat_map (events_of_move i true) (switch bits r ∷ [])
     events_now i inside = elim (cases_lt i (length plain.events)) [
-      | inl within ↦ more_told_at (λ k. flat_map (events_of_move k true) (switch 1 r ∷ [])) plain.events i within
+      | inl within ↦ more_told_at (λ k. flat_map (events_of_move k true) (switch bits r ∷ [])) plain.events i within
       | inr past ↦
-          more_told_past (λ k. flat_map (events_of_move k true) (switch 1 r ∷ [])) plain.events i past
-          ∙ ap (λ told. [] ++ told) (sym (tells_none r i (λ same. absurd (omega (arith, same, past, inside, rails)))))
-          ∙ ap (λ told. told ++ flat_map (events_of_move i true) (switch 1 r ∷ [])) (sym (get_or_past plain.events i [] past))
+          more_told_past (λ k. flat_map (events_of_move k true) (switch bits r ∷ [])) plain.events i past
+          ∙ ap (λ told. [] ++ told) (sym (tells_none bits r i (λ same. absurd (omega (arith, same, past, inside, rails)))))
+          ∙ ap (λ told. told ++ flat_map (events_of_move i true) (switch bits r ∷ [])) (sym (get_or_past plain.events i [] past))
     ]
 
     book_now : (i v : ℕ) (told : List Event) → votes before.board now i ≡ v → slice_index_or now.events i [] ≡ told → book before.board now i ≡ record (book before.board plain i) { votes = v; events = told }
@@ -137,7 +136,8 @@ module _ (before : Hands) (valid : IsValid before.board) (plain : Plain) (chips 
         ap (λ n. record (book before.board plain i) { votes = n; events = slice_index_or now.events i [] }) counted
         ∙ ap (λ events. record (book before.board plain i) { votes = v; events = events }) tells
 
-    module _ (after : Hands) (shows : Shows before plain) (off : is_on rail plain.regs ≡ false) (step : SwitchesOn r before after) where
+    module _ (change : ℕ → ℕ) (shifts : (i : ℕ) → votes before.board now i ≡ cond (is_supply i rail.supply) (change (votes before.board plain i)) (votes before.board plain i))
+        (after : Hands) (shows : Shows before plain) (step : Switches bits (switch_events true bits EnableBit) change r before after) where
       inside : r < length before.board.rails
       inside = slice_get_within before.board.rails r rail at
 
@@ -160,31 +160,31 @@ module _ (before : Hands) (valid : IsValid before.board) (plain : Plain) (chips 
         | inl same ↦
             let was : before.books r ≡ book before.board plain r = ap before.books same ∙ shows.books i held ∙ ap (book before.board plain) (sym same) in
             let no_vote : votes before.board now r ≡ votes before.board plain r =
-            votes_now off r ∙ ap (λ n. votes before.board plain r + n) (votes_not rail.supply r (λ own. supply_apart before.board valid r r inside (supplied ∙ own) refl)) ∙ omega arith in
+            shifts r ∙ ap (λ (t : Bool). cond t (change (votes before.board plain r)) (votes before.board plain r)) (supply_not rail.supply r (λ own. supply_apart before.board valid r r inside (supplied ∙ own) refl)) in
             ap after.books (sym same) ∙ step.told
-            ∙ ap (λ (b : Book). record b { events = b.events ++ TellsEnable ∷ [] }) was
-            ∙ sym (book_now r (votes before.board plain r) (slice_index_or plain.events r [] ++ TellsEnable ∷ []) no_vote
-            (events_now r inside ∙ ap (λ told. slice_index_or plain.events r [] ++ told) (tells_own r)))
+            ∙ ap (λ (b : Book). record b { events = b.events ++ switch_events true bits EnableBit }) was
+            ∙ sym (book_now r (votes before.board plain r) (slice_index_or plain.events r [] ++ switch_events true bits EnableBit) no_vote
+            (events_now r inside ∙ ap (λ told. slice_index_or plain.events r [] ++ told) (tells_own bits r)))
             ∙ ap (book before.board now) same
         | inr apart ↦ by (supply_at before.board.graph r) refl apart
       ]
         where
           silent : r ≢ i → slice_index_or now.events i [] ≡ slice_index_or plain.events i []
-          silent apart = events_now i inside ∙ ap (λ told. slice_index_or plain.events i [] ++ told) (tells_none r i apart) ∙ append-nil (slice_index_or plain.events i [])
+          silent apart = events_now i inside ∙ ap (λ told. slice_index_or plain.events i [] ++ told) (tells_none bits r i apart) ∙ append-nil (slice_index_or plain.events i [])
 
           unvoted : r ≢ i → supply_at before.board.graph r ≢ Some i → after.books i ≡ book before.board now i
           unvoted apart not_it =
               step.rest i apart not_it ∙ shows.books i held
               ∙ sym (book_now i (votes before.board plain i) (slice_index_or plain.events i [])
-              (votes_now off i ∙ ap (λ n. votes before.board plain i + n) (votes_not rail.supply i (λ own. not_it (supplied ∙ own))) ∙ omega arith)
+              (shifts i ∙ ap (λ (t : Bool). cond t (change (votes before.board plain i)) (votes before.board plain i)) (supply_not rail.supply i (λ own. not_it (supplied ∙ own))))
               (silent apart))
 
           voted : r ≢ i → supply_at before.board.graph r ≡ Some i → after.books i ≡ book before.board now i
           voted apart it =
               step.supply i it
-              ∙ ap (λ (b : Book). record b { votes = b.votes + 1 }) (shows.books i held)
-              ∙ sym (book_now i (votes before.board plain i + 1) (slice_index_or plain.events i [])
-              (votes_now off i ∙ ap (λ n. votes before.board plain i + n) (votes_for rail.supply i (sym supplied ∙ it)))
+              ∙ ap (λ (b : Book). record b { votes = change b.votes }) (shows.books i held)
+              ∙ sym (book_now i (change (votes before.board plain i)) (slice_index_or plain.events i [])
+              (shifts i ∙ ap (λ (t : Bool). cond t (change (votes before.board plain i)) (votes before.board plain i)) (supply_it rail.supply i (sym supplied ∙ it)))
               (silent apart))
 
           by : (o : Option ℕ) → supply_at before.board.graph r ≡ o → r ≢ i → after.books i ≡ book before.board now i
@@ -195,8 +195,8 @@ module _ (before : Hands) (valid : IsValid before.board) (plain : Plain) (chips 
           ]
 
       -- so the worker sees the plain board after the move
-      pub step_shows : Shows after now
-      step_shows = record {
+      pub switch_shows : Shows after now
+      switch_shows = record {
         fields = λ j part field guarded is.
             seen_field j part field
             (subst (λ (b : Board). IsGuarded b before.rails j) step.board (subst (λ (rs : List ℕ). IsGuarded after.board rs j) step.rails guarded))
@@ -204,3 +204,20 @@ module _ (before : Hands) (valid : IsValid before.board) (plain : Plain) (chips 
         books = λ i held.
             seen_book i (subst (λ (rs : List ℕ). Contains rs i) step.rails held) ∙ ap (λ (b : Board). book b now i) (sym step.board);
       }
+
+  module _ (r : ℕ) (rail : Rail) (at : slice_get before.board.rails r ≡ Some rail) (after : Hands) (shows : Shows before plain) where
+    -- after a rail that was off was switched on
+    pub step_shows : is_on rail plain.regs ≡ false → SwitchesOn r before after → Shows after (raised before.board plain (switch 1 r ∷ []))
+    step_shows off step =
+        switch_shows r rail at 1 (omega arith) (λ n. n + 1)
+        (λ i. one_up (is_supply i rail.supply) (votes before.board plain i) _
+        (votes_up before.board plain (now r rail at 1 (omega arith)) r rail at (others_now r rail at 1 (omega arith)) off (ap (λ n. eqb n 1) (on_now r rail at 1 (omega arith))) i))
+        after shows step
+
+    -- and after one that was on was switched off
+    pub step_off_shows : is_on rail plain.regs ≡ true → SwitchesOff r before after → Shows after (raised before.board plain (switch 0 r ∷ []))
+    step_off_shows on step =
+        switch_shows r rail at 0 (omega arith) (λ n. n - 1)
+        (λ i. one_down (is_supply i rail.supply) (votes before.board plain i) _
+        (votes_down before.board plain (now r rail at 0 (omega arith)) r rail at (others_now r rail at 0 (omega arith)) on (ap (λ n. eqb n 1) (on_now r rail at 0 (omega arith))) i))
+        after shows step

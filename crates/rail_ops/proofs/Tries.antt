@@ -17,7 +17,7 @@ all_made made = record { made = made; stopped = false }
 abbrev pub stopped_after : ℕ → Tries
 stopped_after made = record { made = made; stopped = true }
 
-abbrev with_tried : Plan → ℕ → Plan
+abbrev pub with_tried : Plan → ℕ → Plan
 with_tried plan tried = record plan { tried = tried }
 
 pub tried_more-zero : (plan : Option Plan) → tried_more 0 plan ≡ plan
@@ -35,7 +35,7 @@ unplanned_past : (plan : Plan) (number : ℕ) → HasSmallNumbers plan → count
 unplanned_past plan number small past = false_from_ne_true _ (λ planned. let most = small number planned in omega arith)
 
 -- the numbers of the next updates, once so many more were tried
-none_of_next : (plan : Plan) (more made number : ℕ) → HasSmallNumbers plan → RefusesNoneOfNext (with_tried plan (raised plan.tried more)) made
+pub none_of_next : (plan : Plan) (more made number : ℕ) → HasSmallNumbers plan → RefusesNoneOfNext (with_tried plan (raised plan.tried more)) made
     → plan.tried + more < number → number ≤ plan.tried + more + made → refuses plan number ≡ false
 none_of_next plan more made number small none above within = elim (cases_lt count_end number) [
   | inl past ↦ unplanned_past plan number small past

@@ -74,7 +74,7 @@ module _ (board : Board) (valid : IsValid board) (most r : ℕ) (rail : Rail) (a
   supply_there = for_supply (λ s. s < length board.rails) rail.supply (λ s is. supply_inside board valid r s (read ∙ is))
 
   -- what holds of all above holds of the supply
-  supply_of_all : (P : ℕ → Type 0) → All P above → (s : ℕ) → supply ≡ Some s → P s
+  pub supply_of_all : (P : ℕ → Type 0) → All P above → (s : ℕ) → supply ≡ Some s → P s
   supply_of_all P all s is =
       let here = leads_above in
       let first = chain_is board.graph (most - 1) s (subst (λ o. reaches_top board.graph (most - 1) o ≡ true) is here.ends) in

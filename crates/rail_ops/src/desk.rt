@@ -5,14 +5,16 @@ ghost use Rattle.plain_board.specs.Untied.{CountsNoLoads, IsUntied};
 ghost use Rattle.rail_ops.specs.Exact.{Leaves, Performs};
 ghost use Rattle.rail_ops.specs.Sight.{IsReady, placed, shown_by};
 
+use crate::disabling::disable;
 use crate::enabling::enable;
 use crate::looking;
 use crate::opening;
 use crate::outcome::{Outcome, without_writes};
+use crate::releasing::release;
 use board::{Board, Handle, RailId};
 use rail_state::Rails;
 use reg_outside::Wire;
-use rows::Call;
+use rows::{Answer, Call};
 use std::alloc::{AllocError, Global};
 use use_counts::Mine;
 
@@ -141,5 +143,57 @@ impl<'a, R: Rails, W: Wire> Desk<'a, R, W> {
             self.keep,
             &handle,
         )
+    }
+
+    /// Gives up an enable of a handle, and switches off the rails that it rests on from below, as long as
+    /// each is idle. The enable stays given up wherever the bus refuses a write, and at `Err`, where the
+    /// memory was out on the way: what was switched off stays off.
+    pub fn disable(&mut self, alloc: Global, handle: Handle) -> Result<Outcome, AllocError>
+        requires valid { IsValid self.old.board.now }
+        requires untied { IsUntied self.old.board.now }
+        requires no_loads { CountsNoLoads self.old.board.now }
+        requires board { R.board self.old.rails.now ≡ self.old.board.now }
+        requires fits { R.fits self.old.rails.now }
+        requires ready { IsReady (placed (shown_by R.board R.rails R.bits R.states self.old.rails.now) self.old.mine.now self.old.worker) (Call.Disable handle) }
+        ensures exact { IfOk result (λ outcome. Performs (Call.Disable handle) (placed (shown_by R.board R.rails R.bits R.states self.old.rails.now) self.old.mine.now self.old.worker) (placed (shown_by R.board R.rails R.bits R.states self.new.rails.now) self.new.mine.now self.new.worker) (told_by W.accepted W.plan W.faults self.old.wire.now) (told_by W.accepted W.plan W.faults self.new.wire.now) self.old.keep outcome.answer outcome.writes) }
+        ensures err { OnErr result (Leaves (Call.Disable handle) (placed (shown_by R.board R.rails R.bits R.states self.old.rails.now) self.old.mine.now self.old.worker) (placed (shown_by R.board R.rails R.bits R.states self.new.rails.now) self.new.mine.now self.new.worker) (told_by W.accepted W.plan W.faults self.old.wire.now) (told_by W.accepted W.plan W.faults self.new.wire.now)) }
+        ensures fits { R.fits self.new.rails.now }
+        ensures board { R.board self.new.rails.now ≡ R.board self.old.rails.now }
+        ensures rails { R.rails self.new.rails.now ≡ R.rails self.old.rails.now }
+        ensures base { R.base self.new.rails.now ≡ R.base self.old.rails.now }
+    {
+        disable(
+            alloc,
+            self.board,
+            self.rails,
+            self.wire,
+            self.mine,
+            self.worker,
+            self.keep,
+            &handle,
+        )
+    }
+
+    /// Ends the holds of the start, but for those of rails that are always on, and switches off the rails
+    /// that are idle then, each before its supply. The holds stay ended wherever the bus refuses a write,
+    /// and at `Err`, where the memory was out on the way: what was switched off stays off.
+    pub fn release_boot(&mut self, alloc: Global) -> Result<Outcome, AllocError>
+        requires valid { IsValid self.old.board.now }
+        requires untied { IsUntied self.old.board.now }
+        requires no_loads { CountsNoLoads self.old.board.now }
+        requires board { R.board self.old.rails.now ≡ self.old.board.now }
+        requires fits { R.fits self.old.rails.now }
+        requires ready { IsReady (placed (shown_by R.board R.rails R.bits R.states self.old.rails.now) self.old.mine.now self.old.worker) Call.ReleaseBoot }
+        ensures exact { IfOk result (λ outcome. Performs Call.ReleaseBoot (placed (shown_by R.board R.rails R.bits R.states self.old.rails.now) self.old.mine.now self.old.worker) (placed (shown_by R.board R.rails R.bits R.states self.new.rails.now) self.new.mine.now self.new.worker) (told_by W.accepted W.plan W.faults self.old.wire.now) (told_by W.accepted W.plan W.faults self.new.wire.now) self.old.keep outcome.answer outcome.writes) }
+        ensures err { OnErr result (Leaves Call.ReleaseBoot (placed (shown_by R.board R.rails R.bits R.states self.old.rails.now) self.old.mine.now self.old.worker) (placed (shown_by R.board R.rails R.bits R.states self.new.rails.now) self.new.mine.now self.new.worker) (told_by W.accepted W.plan W.faults self.old.wire.now) (told_by W.accepted W.plan W.faults self.new.wire.now)) }
+        ensures fits { R.fits self.new.rails.now }
+        ensures board { R.board self.new.rails.now ≡ R.board self.old.rails.now }
+        ensures rails { R.rails self.new.rails.now ≡ R.rails self.old.rails.now }
+        ensures base { R.base self.new.rails.now ≡ R.base self.old.rails.now }
+    {
+        if self.rails.state(RailId(0)).is_suspended() {
+            return Ok(without_writes(alloc, Answer::Suspended));
+        }
+        release(alloc, self.board, self.rails, self.wire, self.keep)
     }
 }

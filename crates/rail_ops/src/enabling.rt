@@ -110,7 +110,7 @@ fn count<R: Rails>(rails: &mut R, r: RailId, at: usize)
 }
 
 /// What is answered where the bus refused a rail's on bit after so many moves.
-fn fault(alloc: Global, board: &Board, r: RailId, applied: u32) -> Answer
+pub(crate) fn fault(alloc: Global, board: &Board, r: RailId, applied: u32) -> Answer
     requires there { r.0 < length board.now.rails }
     ensures { IfSome (slice_get board.now.rails r.0) (λ rail. result ≡ Answer.Fault rail.desc.enable.chip rail.desc.enable.reg applied []) }
 {

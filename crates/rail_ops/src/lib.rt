@@ -3,11 +3,14 @@
 
 mod alone;
 mod desk;
+mod disabling;
 mod enabling;
 pub mod laws;
+mod falling;
 mod looking;
 mod opening;
 mod outcome;
+mod releasing;
 mod rising;
 mod switching;
 
