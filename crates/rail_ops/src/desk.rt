@@ -44,6 +44,9 @@ impl<'a, R: Rails, W: Wire> Desk<'a, R, W> {
         ensures board { R.board self.new.rails.now ≡ R.board self.old.rails.now }
         ensures rails { R.rails self.new.rails.now ≡ R.rails self.old.rails.now }
         ensures base { R.base self.new.rails.now ≡ R.base self.old.rails.now }
+        ensures same_board { self.new.board.now ≡ self.old.board.now }
+        ensures worker { self.new.worker ≡ self.old.worker }
+        ensures keep { self.new.keep ≡ self.old.keep }
         ensures lent_rails { self.new.rails.ghost_name ≡ self.old.rails.ghost_name }
         ensures lent_wire { self.new.wire.ghost_name ≡ self.old.wire.ghost_name }
         ensures lent_names { self.new.mine.ghost_name ≡ self.old.mine.ghost_name }
@@ -64,6 +67,9 @@ impl<'a, R: Rails, W: Wire> Desk<'a, R, W> {
         ensures board { R.board self.new.rails.now ≡ R.board self.old.rails.now }
         ensures rails { R.rails self.new.rails.now ≡ R.rails self.old.rails.now }
         ensures base { R.base self.new.rails.now ≡ R.base self.old.rails.now }
+        ensures same_board { self.new.board.now ≡ self.old.board.now }
+        ensures worker { self.new.worker ≡ self.old.worker }
+        ensures keep { self.new.keep ≡ self.old.keep }
         ensures lent_rails { self.new.rails.ghost_name ≡ self.old.rails.ghost_name }
         ensures lent_wire { self.new.wire.ghost_name ≡ self.old.wire.ghost_name }
         ensures lent_names { self.new.mine.ghost_name ≡ self.old.mine.ghost_name }
@@ -92,6 +98,9 @@ impl<'a, R: Rails, W: Wire> Desk<'a, R, W> {
         ensures board { R.board self.new.rails.now ≡ R.board self.old.rails.now }
         ensures rails { R.rails self.new.rails.now ≡ R.rails self.old.rails.now }
         ensures base { R.base self.new.rails.now ≡ R.base self.old.rails.now }
+        ensures same_board { self.new.board.now ≡ self.old.board.now }
+        ensures worker { self.new.worker ≡ self.old.worker }
+        ensures keep { self.new.keep ≡ self.old.keep }
         ensures lent_rails { self.new.rails.ghost_name ≡ self.old.rails.ghost_name }
         ensures lent_wire { self.new.wire.ghost_name ≡ self.old.wire.ghost_name }
         ensures lent_names { self.new.mine.ghost_name ≡ self.old.mine.ghost_name }
@@ -123,6 +132,9 @@ impl<'a, R: Rails, W: Wire> Desk<'a, R, W> {
         ensures board { R.board self.new.rails.now ≡ R.board self.old.rails.now }
         ensures rails { R.rails self.new.rails.now ≡ R.rails self.old.rails.now }
         ensures base { R.base self.new.rails.now ≡ R.base self.old.rails.now }
+        ensures same_board { self.new.board.now ≡ self.old.board.now }
+        ensures worker { self.new.worker ≡ self.old.worker }
+        ensures keep { self.new.keep ≡ self.old.keep }
         ensures lent_rails { self.new.rails.ghost_name ≡ self.old.rails.ghost_name }
         ensures lent_wire { self.new.wire.ghost_name ≡ self.old.wire.ghost_name }
         ensures lent_names { self.new.mine.ghost_name ≡ self.old.mine.ghost_name }
@@ -147,6 +159,9 @@ impl<'a, R: Rails, W: Wire> Desk<'a, R, W> {
         ensures board { R.board self.new.rails.now ≡ R.board self.old.rails.now }
         ensures rails { R.rails self.new.rails.now ≡ R.rails self.old.rails.now }
         ensures base { R.base self.new.rails.now ≡ R.base self.old.rails.now }
+        ensures same_board { self.new.board.now ≡ self.old.board.now }
+        ensures worker { self.new.worker ≡ self.old.worker }
+        ensures keep { self.new.keep ≡ self.old.keep }
         ensures lent_rails { self.new.rails.ghost_name ≡ self.old.rails.ghost_name }
         ensures lent_wire { self.new.wire.ghost_name ≡ self.old.wire.ghost_name }
         ensures lent_names { self.new.mine.ghost_name ≡ self.old.mine.ghost_name }
@@ -179,6 +194,9 @@ impl<'a, R: Rails, W: Wire> Desk<'a, R, W> {
         ensures board { R.board self.new.rails.now ≡ R.board self.old.rails.now }
         ensures rails { R.rails self.new.rails.now ≡ R.rails self.old.rails.now }
         ensures base { R.base self.new.rails.now ≡ R.base self.old.rails.now }
+        ensures same_board { self.new.board.now ≡ self.old.board.now }
+        ensures worker { self.new.worker ≡ self.old.worker }
+        ensures keep { self.new.keep ≡ self.old.keep }
         ensures lent_rails { self.new.rails.ghost_name ≡ self.old.rails.ghost_name }
         ensures lent_wire { self.new.wire.ghost_name ≡ self.old.wire.ghost_name }
         ensures lent_names { self.new.mine.ghost_name ≡ self.old.mine.ghost_name }
@@ -211,6 +229,9 @@ impl<'a, R: Rails, W: Wire> Desk<'a, R, W> {
         ensures board { R.board self.new.rails.now ≡ R.board self.old.rails.now }
         ensures rails { R.rails self.new.rails.now ≡ R.rails self.old.rails.now }
         ensures base { R.base self.new.rails.now ≡ R.base self.old.rails.now }
+        ensures same_board { self.new.board.now ≡ self.old.board.now }
+        ensures worker { self.new.worker ≡ self.old.worker }
+        ensures keep { self.new.keep ≡ self.old.keep }
         ensures lent_rails { self.new.rails.ghost_name ≡ self.old.rails.ghost_name }
         ensures lent_wire { self.new.wire.ghost_name ≡ self.old.wire.ghost_name }
         ensures lent_names { self.new.mine.ghost_name ≡ self.old.mine.ghost_name }
@@ -234,6 +255,9 @@ impl<'a, R: Rails, W: Wire> Desk<'a, R, W> {
         ensures board { R.board self.new.rails.now ≡ R.board self.old.rails.now }
         ensures rails { R.rails self.new.rails.now ≡ R.rails self.old.rails.now }
         ensures base { R.base self.new.rails.now ≡ R.base self.old.rails.now }
+        ensures same_board { self.new.board.now ≡ self.old.board.now }
+        ensures worker { self.new.worker ≡ self.old.worker }
+        ensures keep { self.new.keep ≡ self.old.keep }
         ensures lent_rails { self.new.rails.ghost_name ≡ self.old.rails.ghost_name }
         ensures lent_wire { self.new.wire.ghost_name ≡ self.old.wire.ghost_name }
         ensures lent_names { self.new.mine.ghost_name ≡ self.old.mine.ghost_name }
@@ -258,6 +282,9 @@ impl<'a, R: Rails, W: Wire> Desk<'a, R, W> {
         ensures board { R.board self.new.rails.now ≡ R.board self.old.rails.now }
         ensures rails { R.rails self.new.rails.now ≡ R.rails self.old.rails.now }
         ensures base { R.base self.new.rails.now ≡ R.base self.old.rails.now }
+        ensures same_board { self.new.board.now ≡ self.old.board.now }
+        ensures worker { self.new.worker ≡ self.old.worker }
+        ensures keep { self.new.keep ≡ self.old.keep }
         ensures lent_rails { self.new.rails.ghost_name ≡ self.old.rails.ghost_name }
         ensures lent_wire { self.new.wire.ghost_name ≡ self.old.wire.ghost_name }
         ensures lent_names { self.new.mine.ghost_name ≡ self.old.mine.ghost_name }
