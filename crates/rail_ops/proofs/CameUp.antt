@@ -114,7 +114,7 @@ tells_then first second stopped bus mid bus' one two = record {
       (tried_then (length first) (record { made = length second; stopped = stopped }) bus.plan mid.plan bus'.plan one.tried two.tried);
 }
 
-updates_append : (board : Board) (first second : List Move) → updates_of board (first ++ second) ≡ updates_of board first ++ updates_of board second
+pub updates_append : (board : Board) (first second : List Move) → updates_of board (first ++ second) ≡ updates_of board first ++ updates_of board second
 updates_append board first second =
     ap (map update_of) (map-append _ first second) ∙ map-append update_of (writes_of board first) (writes_of board second)
 

@@ -21,6 +21,10 @@ pub mod Closed
 pub mod Answered
 pub mod OtherHandles
 pub mod Selectors
+pub mod Nearest
+pub mod NextValue
+pub mod Selected
+pub mod Walked
 pub mod ForeignCalls
 pub mod NeededRails
 pub mod GoneDown

@@ -10,3 +10,5 @@ pub mod Enabling
 pub mod Opening
 pub mod Disabling
 pub mod Releasing
+pub mod Walking
+pub mod Setting

@@ -13,6 +13,7 @@ mod outcome;
 mod releasing;
 mod rising;
 mod switching;
+mod walking;
 
 pub use alone::Alone;
 pub use desk::Desk;
