@@ -1,27 +1,26 @@
 -- What the answers of calls on handles tell: a refusal is no fault, and a fault names rails of the board.
-use Rattle.std.proofs.Common.{◌≡◌, ℕ, ◌+◌, ◌<◌, ◌≤◌, Bool, true, false, cond, not, List, [], ◌∷◌, Option, Some, None, refl, sym, ap, ◌∙◌, subst, arith, map, filter, find, length, slice_get, All}
-use Rattle.std.specs.Prelude.{◌==◌, ◌&&◌, is_none, nat_lt, option_map}
+use Rattle.std.proofs.Common.{◌≡◌, ℕ, ◌+◌, ◌<◌, true, false, not, List, [], ◌∷◌, Option, Some, None, refl, subst, arith, find, length, slice_get, All}
+use Rattle.std.specs.Prelude.{◌==◌}
 use Rattle.std.specs.List.{enumerate_from}
-use Rattle.std.proofs.lemmas.List.Elements.{All-cons, All-filter, All-map, All-nil, All-weaker}
-use Rattle.arrayvec.specs.ArrayString.{ArrayString}
+use Rattle.std.proofs.lemmas.List.Elements.{All-cons, All-filter, All-map, All-nil}
 use Rattle.board.specs.declared.board.Board.{Board}
 use Rattle.board.specs.declared.rail.Rail.{Rail}
 use Rattle.board.specs.declared.rail_id.RailId.{RailId}
 use Rattle.board.specs.Rail.{uv}
-use Rattle.rail_law.specs.Moves.{Move, writes_of}
+use Rattle.rail_law.specs.Moves.{Move}
 use Rattle.rows.specs.declared.answer.Answer.{Answer}
-use Rattle.rows.specs.declared.answer.Answer.TheVariants.{Fault, NoHandle, OkOn, OkSet, OkUv}
+use Rattle.rows.specs.declared.answer.Answer.TheVariants.{Fault, NoHandle}
 use Rattle.rows.specs.declared.call.Call.{Call}
 use Rattle.rows.specs.declared.call.Call.TheVariants.{Close, Disable, Enable, Get, IsOn, Open, ReleaseBoot, Set}
 use Rattle.rows.specs.Row.{HasRails}
 use Rattle.use_counts.specs.declared.handle_row.HandleRow.{HandleRow}
 use Rattle.plain_board.specs.declared.plain.Plain.{Plain}
-use Rattle.plain_board.specs.Answer.{answer, answered, changed_rails, of_open, says, settled}
+use Rattle.plain_board.specs.Answer.{answer, answered, changed_rails, says, settled}
 use Rattle.plain_board.specs.Handles.{Entry, for_open, on_rail, open_of}
 use Rattle.plain_board.specs.History.{is_fault}
 use Rattle.plain_board.specs.Moved.{after_first}
 use Rattle.plain_board.specs.Plan.{moves_of_call}
-use Rattle.plain_board.specs.Refusals.{Reason, open_reasons, overloads, reasons, refusal}
+use Rattle.plain_board.specs.Refusals.{Reason, open_reasons, reasons, refusal}
 use Rattle.plain_board.specs.Untied.{IsHandleCall}
 use Rattle.rail_ops.proofs.Found.{found_has, some_of}
 

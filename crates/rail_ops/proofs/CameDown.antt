@@ -1,7 +1,6 @@
 -- Rails that go down one after another, as the worker sees them.
-use Rattle.std.proofs.Common.{◌≡◌, ◌≢◌, ℕ, zero, suc, ◌+◌, ◌<◌, ◌≤◌, ◌&&◌, Bool, true, false, cond, List, [], ◌∷◌, ◌++◌, Option, Some, None, inl, inr, refl, sym, ap, ◌∙◌, subst, arith, map, length, take, eqb, slice_get, All}
-use Rattle.std.specs.Prelude.{Contains, flat_map, is_some, option_and_then, slice_index_or}
-use Rattle.std.specs.List.{enumerate_from}
+use Rattle.std.proofs.Common.{◌≡◌, ◌≢◌, ℕ, suc, ◌+◌, ◌<◌, ◌≤◌, ◌&&◌, Bool, true, false, cond, List, [], ◌∷◌, ◌++◌, Option, Some, None, inl, inr, refl, sym, ap, ◌∙◌, subst, arith, length, take, eqb, slice_get}
+use Rattle.std.specs.Prelude.{Contains, flat_map, is_some, slice_index_or}
 use Rattle.std.specs.Option.{option_map_or}
 use Rattle.std.proofs.lemmas.Bool.{and_parts, both_ways, cases_eq, cases_lt, eqb-true, eq-eqb, false_from_ne_true}
 use Rattle.std.proofs.lemmas.List.{append-nil, get_or_past}
@@ -26,11 +25,11 @@ use Rattle.plain_board.specs.Events.{events_of_move, switch_events}
 use Rattle.plain_board.specs.Plan.{chain_off, is_idle, switch, with_off}
 use Rattle.plain_board.specs.Seen.{book}
 use Rattle.plain_board.specs.Untied.{HoldFields}
-use Rattle.plain_board.proofs.SwitchedOff.{idle_unused, no_vote, rail_supplies}
+use Rattle.plain_board.proofs.SwitchedOff.{idle_unused, no_vote}
 use Rattle.plain_board.proofs.Switches.{AreSwitchedOnly, nothing_switched, switched_at}
 use Rattle.rail_ops.specs.Sight.{Hands, Shows, ShowsSame}
 use Rattle.rail_ops.specs.Taking.{Tells, updates_of}
-use Rattle.rail_ops.specs.Inside.Falling.{CameDown, IsSighted, IsVoted, MayGoOff, WentDown, looks_idle, with_abort}
+use Rattle.rail_ops.specs.Inside.Falling.{CameDown, IsSighted, MayGoOff, WentDown, looks_idle, with_abort}
 use Rattle.rail_ops.specs.Inside.Raised.{ChangesBook, SwitchesOff, raised}
 use Rattle.rail_ops.proofs.CameUp.{on_by_bit, tells_then}
 use Rattle.rail_ops.proofs.Exactly.{shows_same, tells_nothing}

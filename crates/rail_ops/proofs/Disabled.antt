@@ -1,7 +1,7 @@
 -- What a worker that is ready for a disable holds, and what it sees before and after the enable is given up.
-use Rattle.std.proofs.Common.{◌≡◌, ℕ, ◌-◌, ◌<◌, Bool, List, [], Option, Some, None, refl, sym, ap, ◌∙◌, subst, length, slice_get, slice_set, All}
+use Rattle.std.proofs.Common.{◌≡◌, ℕ, ◌<◌, Bool, List, [], Option, Some, None, refl, sym, ◌∙◌, subst, length, slice_get, slice_set, All}
 use Rattle.std.specs.Prelude.{Contains, position}
-use Rattle.std.proofs.lemmas.Option.{same_Some, slice_get_within}
+use Rattle.std.proofs.lemmas.Option.{slice_get_within}
 use Rattle.arrayvec.specs.ArrayString.{ArrayString}
 use Rattle.reg_outside.specs.Bus.{Bus}
 use Rattle.board_graph.specs.Sets.{closure}
@@ -10,7 +10,6 @@ use Rattle.board.specs.declared.write.Write.{Write}
 use Rattle.board.specs.Valid.{IsValid}
 use Rattle.rail_state.specs.Sight.{IsOwned}
 use Rattle.rows.specs.declared.answer.Answer.{Answer}
-use Rattle.rows.specs.declared.call.Call.{Call}
 use Rattle.rows.specs.declared.call.Call.TheVariants.{Disable}
 use Rattle.use_counts.specs.Uses.{is_row_of, rail_named}
 use Rattle.use_counts.specs.declared.handle_row.HandleRow.{HandleRow}

@@ -1,8 +1,8 @@
 -- A call whose rails go down, once the plain board without what it ends is seen: it is exact, or left on the way.
-use Rattle.std.proofs.Common.{◌≡◌, ℕ, zero, suc, ◌+◌, ◌-◌, ◌<◌, ◌≤◌, ◌==◌, Bool, true, false, cond, List, [], ◌∷◌, Option, Some, None, inl, inr, refl, sym, ap, ◌∙◌, subst, arith, map, take, length, slice_get, slice_set}
+use Rattle.std.proofs.Common.{◌≡◌, ℕ, ◌<◌, ◌≤◌, Bool, true, false, List, [], Option, Some, None, refl, sym, ap, ◌∙◌, subst, arith, map, take, length, slice_get}
 use Rattle.std.specs.Prelude.{is_some, option_map, option_and_then, unwrap_or, if◌then◌else◌}
-use Rattle.std.proofs.lemmas.List.{length-take-le, take-map, take-take, take_all}
-use Rattle.std.proofs.lemmas.Option.{same_Some, slice_get-map, slice_get_past, slice_get_within}
+use Rattle.std.proofs.lemmas.List.{length-take-le, take-map, take_all}
+use Rattle.std.proofs.lemmas.Option.{slice_get-map, slice_get_past, slice_get_within}
 use Rattle.reg_outside.specs.Bus.{Bus}
 use Rattle.board.specs.declared.board.Board.{Board}
 use Rattle.board.specs.declared.part.Part.TheVariants.{Enable as EnableBit}
@@ -10,14 +10,14 @@ use Rattle.board.specs.declared.rail.Rail.{Rail}
 use Rattle.board.specs.declared.write.Write.{Write}
 use Rattle.board.specs.Rail.{part_field}
 use Rattle.board.specs.Valid.{IsValid}
-use Rattle.rail_law.specs.Moves.{Move, after_moves, update_of_field, writes_of}
+use Rattle.rail_law.specs.Moves.{Move, update_of_field, writes_of}
 use Rattle.rows.specs.declared.answer.Answer.{Answer}
 use Rattle.rows.specs.declared.answer.Answer.TheVariants.{Fault, Ok}
 use Rattle.rows.specs.declared.call.Call.{Call}
 use Rattle.rows.specs.Row.{NamesRail}
 use Rattle.plain_board.specs.declared.plain.Plain.{Plain}
 use Rattle.plain_board.specs.Answer.{answer, answered, changed_rails, done, fault, no_write, plan, planned, says, settled, stopped}
-use Rattle.plain_board.specs.History.{IsWithinPlan, is_fault}
+use Rattle.plain_board.specs.History.{IsWithinPlan}
 use Rattle.plain_board.specs.Inv.{Inv}
 use Rattle.plain_board.specs.Moved.{after_first}
 use Rattle.plain_board.specs.Plan.{moves_of_call, switch}

@@ -1,18 +1,16 @@
 -- No call on a handle changes what is in no field of the board.
-use Rattle.std.proofs.Common.{◌≡◌, ℕ, ◌≤◌, Bool, List, [], ◌∷◌, Option, Some, None, refl, sym, ap, ◌∙◌, subst, arith, map, length, reverse, take, get_or, slice_get, All, Contains}
-use Rattle.std.specs.Prelude.{IfSome, option_and_then, option_map}
+use Rattle.std.proofs.Common.{◌≡◌, ℕ, ◌≤◌, List, [], ◌∷◌, Option, Some, None, refl, sym, ap, ◌∙◌, subst, arith, map, length, reverse, take, slice_get, All, Contains}
+use Rattle.std.specs.Prelude.{IfSome, option_and_then}
 use Rattle.std.specs.Option.{option_map_or}
 use Rattle.std.proofs.lemmas.List.Elements.{All-cons, All-head, All-nil, All-tail, All-take}
 use Rattle.std.proofs.lemmas.Option.{same_Some}
 use Rattle.chip_regs.specs.declared.field.Field.{Field}
 use Rattle.chip_regs.specs.Field.{FitsField}
-use Rattle.chip_regs.specs.Registers.{with_field}
 use Rattle.chip_regs.proofs.Fields.{IsImage-with_field, length-with_field}
 use Rattle.board.specs.declared.board.Board.{Board}
 use Rattle.board.specs.declared.part.Part.TheVariants.{Enable as EnableBit, Selector}
 use Rattle.board.specs.declared.rail.Rail.{Rail}
 use Rattle.board.specs.Desc.{HoldsSelectors}
-use Rattle.board.specs.Fields.{field_at}
 use Rattle.board.specs.Rail.{allowed, part_field, uv}
 use Rattle.board.specs.Valid.{IsSoundRail, IsValid}
 use Rattle.rail_law.specs.Moves.{Move, after_moves, field_of_move, selector_for, written}
@@ -28,14 +26,14 @@ use Rattle.plain_board.specs.Plan.{always_holds, chain, chain_off, changed, move
 use Rattle.plain_board.specs.Refusals.{refusal}
 use Rattle.plain_board.specs.Switched.{off_rails}
 use Rattle.plain_board.specs.Untied.{CountsNoLoads, HoldFields, IsHandleCall, IsUntied}
-use Rattle.plain_board.proofs.Grown.{HasGrown, after_first-grown}
+use Rattle.plain_board.proofs.Grown.{after_first-grown}
 use Rattle.plain_board.proofs.KeptDisable.{disable_moves_are, disable_not_refused}
 use Rattle.plain_board.proofs.KeptEnable.{enable_moves_are, enable_not_refused}
 use Rattle.plain_board.proofs.MovedAlone.{all_at}
 use Rattle.plain_board.proofs.RailMoves.{moves_to}
-use Rattle.plain_board.proofs.SetMoves.{IsSetTo, set_not_refused}
+use Rattle.plain_board.proofs.SetMoves.{set_not_refused}
 use Rattle.plain_board.proofs.SwitchMoves.{chain_switches, rails_of_moves, sweep_switches}
-use Rattle.plain_board.proofs.ValuesTo.{IsStop, values_to, values_to-stops}
+use Rattle.plain_board.proofs.ValuesTo.{values_to, values_to-stops}
 use Rattle.rail_ops.specs.Foreign.{foreign}
 use Rattle.rail_ops.proofs.AloneFields.{can_put}
 use Rattle.rail_ops.proofs.Answered.{for_each}

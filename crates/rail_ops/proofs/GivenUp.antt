@@ -1,52 +1,44 @@
 -- A disable of an open handle, from how the rails of its chain went down once the enable was given up.
-use Rattle.std.proofs.Common.{◌≡◌, ℕ, zero, suc, ◌+◌, ◌-◌, ◌<◌, ◌≤◌, ◌==◌, Bool, true, false, cond, List, [], ◌∷◌, Option, Some, None, inl, inr, refl, sym, ap, ◌∙◌, subst, arith, map, take, length, slice_get, slice_set}
-use Rattle.std.specs.Prelude.{Contains, is_some, option_map, option_and_then, position, unwrap_or, if◌then◌else◌}
+use Rattle.std.proofs.Common.{◌≡◌, ℕ, zero, suc, ◌<◌, ◌==◌, Bool, true, false, cond, List, [], ◌∷◌, Option, Some, None, inl, inr, refl, sym, ap, ◌∙◌, subst, arith, map, length, slice_get, slice_set}
+use Rattle.std.specs.Prelude.{Contains, position}
 use Rattle.std.proofs.lemmas.Bool.{cases_eq}
-use Rattle.std.proofs.lemmas.List.{length-take-le, take-map, take-take, take_all}
-use Rattle.std.proofs.lemmas.Option.{same_Some, slice_get-map, slice_get_past, slice_get_within}
+use Rattle.std.proofs.lemmas.Option.{same_Some}
 use Rattle.arrayvec.specs.ArrayString.{ArrayString}
 use Rattle.reg_outside.specs.Bus.{Bus}
 use Rattle.board.specs.declared.board.Board.{Board}
-use Rattle.board.specs.declared.part.Part.TheVariants.{Enable as EnableBit}
 use Rattle.board.specs.declared.rail.Rail.{Rail}
 use Rattle.board.specs.declared.rail_id.RailId.{RailId}
 use Rattle.board.specs.declared.write.Write.{Write}
 use Rattle.board.specs.Fields.{field_at}
-use Rattle.board.specs.Rail.{part_field}
 use Rattle.board.specs.Valid.{IsValid}
-use Rattle.rail_law.specs.Moves.{Move, after_moves, update_of_field, writes_of}
+use Rattle.rail_law.specs.Moves.{Move}
 use Rattle.rail_state.specs.Sight.{IsGuarded}
 use Rattle.rows.specs.declared.answer.Answer.{Answer}
-use Rattle.rows.specs.declared.answer.Answer.TheVariants.{Fault, NoHandle, Ok, Suspended, Unbalanced}
+use Rattle.rows.specs.declared.answer.Answer.TheVariants.{NoHandle, Suspended, Unbalanced}
 use Rattle.rows.specs.declared.call.Call.{Call}
 use Rattle.rows.specs.declared.call.Call.TheVariants.{Disable}
 use Rattle.use_counts.specs.Book.{Book}
 use Rattle.use_counts.specs.Uses.{is_row_of, rail_named}
 use Rattle.use_counts.specs.declared.handle_row.HandleRow.{HandleRow}
 use Rattle.plain_board.specs.declared.plain.Plain.{Plain}
-use Rattle.plain_board.specs.Answer.{answer, answered, changed_rails, fault, no_write, plan, planned, settled, with_changed}
+use Rattle.plain_board.specs.Answer.{plan, with_changed}
 use Rattle.plain_board.specs.Handles.{rows_on, with_row}
-use Rattle.plain_board.specs.History.{IsWithinPlan, is_fault}
-use Rattle.plain_board.specs.Inv.{Inv}
-use Rattle.plain_board.specs.Moved.{after_first}
-use Rattle.plain_board.specs.Plan.{chain, chain_off, moves_of_call, one_less, switch}
+use Rattle.plain_board.specs.History.{is_fault}
+use Rattle.plain_board.specs.Plan.{chain, chain_off, one_less, switch}
 use Rattle.plain_board.specs.Refusals.{Reason, refusal}
 use Rattle.plain_board.specs.Seen.{book}
 use Rattle.plain_board.specs.Untied.{CountsNoLoads, HoldFields, IsUntied}
-use Rattle.plain_board.proofs.HandleCallLaws.{handle_calls_keep_fields_lem, handle_calls_keep_inv_lem}
 use Rattle.plain_board.proofs.HandleMoves.{disable_plan}
 use Rattle.plain_board.proofs.KeptDisable.{given_up}
 use Rattle.plain_board.proofs.SwitchMoves.{chain_switches, rails_of_moves}
 use Rattle.rail_ops.specs.Exact.{IsExact, IsLeft}
-use Rattle.rail_ops.specs.Sight.{Hands, Knows, MayBe, Shows, placed}
-use Rattle.rail_ops.specs.Taking.{Tells, updates_of}
+use Rattle.rail_ops.specs.Sight.{Hands, Knows, MayBe, placed}
 use Rattle.rail_ops.specs.Inside.Disabling.{disable_refusal}
 use Rattle.rail_ops.specs.Inside.Falling.{Fell, IsSighted, WentDown, with_abort}
 use Rattle.rail_ops.specs.Inside.Raised.{ChangesBook, raised}
 use Rattle.rail_ops.proofs.FallExact.{down_exact, left_down}
 use Rattle.rail_ops.proofs.Found.{Found, not_found}
-use Rattle.rail_ops.proofs.Lowered.{after_first-down, after_first-refused, stands_down}
-use Rattle.rail_ops.proofs.OneMore.{it, none_changed, seen_place}
+use Rattle.rail_ops.proofs.OneMore.{it, seen_place}
 use Rattle.rail_ops.proofs.OneRow.{at, count_kept, rail_kept, row_changed, rows_kept}
 use Rattle.rail_ops.proofs.Reading.{first_reason, for_found, for_missing}
 

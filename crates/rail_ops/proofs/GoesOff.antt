@@ -1,5 +1,5 @@
 -- A rail of which none that it supplies is seen to be on may be switched off, and what that changes before the worker.
-use Rattle.std.proofs.Common.{◌≡◌, ◌≢◌, ℕ, ◌+◌, ◌-◌, ◌<◌, false, List, [], ◌∷◌, ◌++◌, Option, Some, None, refl, sym, ap, ◌∙◌, subst, arith, length, append_assoc, eqb, slice_get}
+use Rattle.std.proofs.Common.{◌≡◌, ℕ, ◌-◌, ◌<◌, false, List, [], ◌∷◌, ◌++◌, Some, refl, sym, ap, ◌∙◌, subst, arith, length, append_assoc, eqb, slice_get}
 use Rattle.std.specs.Prelude.{Contains, IfSome, option_map, option_and_then}
 use Rattle.std.specs.Option.{option_map_or}
 use Rattle.std.proofs.lemmas.Bool.{eq-eqb, eqb-true, false_from_ne_true, or_left}
@@ -7,7 +7,7 @@ use Rattle.std.proofs.lemmas.Option.{slice_get_within}
 use Rattle.chip_regs.specs.declared.field.Field.{Field}
 use Rattle.chip_regs.specs.Field.{FitsField}
 use Rattle.board_graph.specs.Graph.{supply_at}
-use Rattle.board_graph.specs.Sets.{guard_of, is_guard_of, rails_of}
+use Rattle.board_graph.specs.Sets.{is_guard_of, rails_of}
 use Rattle.board.specs.declared.board.Board.{Board}
 use Rattle.board.specs.declared.event.Event.{Event}
 use Rattle.board.specs.declared.event.Event.TheVariants.{AbortDisable, Disable, PreDisable}
@@ -25,7 +25,7 @@ use Rattle.use_counts.specs.Book.{Book}
 use Rattle.plain_board.specs.Untied.{IsUntied, HoldFields}
 use Rattle.plain_board.proofs.Switches.{nothing_switched, IsSwitching, after_switch, switch_off, law_switched}
 use Rattle.rail_ops.specs.Sight.{Hands}
-use Rattle.rail_ops.specs.Inside.Falling.{IsVoted, MayGoOff}
+use Rattle.rail_ops.specs.Inside.Falling.{MayGoOff}
 use Rattle.rail_ops.specs.Inside.Raised.{ChangesBook, ChangesVotes, PutsBit, SwitchesOff}
 use Rattle.rail_ops.specs.Inside.Supplied.{HavePlaces}
 use Rattle.rail_ops.proofs.Ready.{of_graph}

@@ -1,10 +1,9 @@
 -- The plain board after the first so many moves that switch rails off, and after a refused one.
-use Rattle.std.proofs.Common.{◌≡◌, ℕ, zero, suc, ◌+◌, ◌≤◌, true, false, List, [], ◌∷◌, ◌++◌, Option, Some, None, refl, sym, ap, ◌∙◌, subst, arith, append_assoc, map, length, take, slice_get}
+use Rattle.std.proofs.Common.{◌≡◌, ℕ, zero, suc, true, false, List, [], ◌∷◌, ◌++◌, Option, Some, None, refl, sym, ap, ◌∙◌, subst, arith, map, length, take, slice_get}
 use Rattle.std.specs.Prelude.{flat_map, option_to_list}
 use Rattle.std.specs.Option.{option_map_or}
 use Rattle.std.proofs.lemmas.List.{append-nil}
 use Rattle.board.specs.declared.board.Board.{Board}
-use Rattle.board.specs.declared.event.Event.{Event}
 use Rattle.board.specs.declared.rail.Rail.{Rail}
 use Rattle.board.specs.Rail.{uv}
 use Rattle.board.specs.Valid.{IsSoundBoard}
@@ -17,7 +16,7 @@ use Rattle.plain_board.specs.Untied.{HoldFields}
 use Rattle.plain_board.proofs.Switches.{AreSwitchedOnly, after_switch, nothing_switched, switched_at, uv_kept}
 use Rattle.rail_ops.specs.Inside.Falling.{with_abort}
 use Rattle.rail_ops.specs.Inside.Raised.{raised}
-use Rattle.rail_ops.proofs.Raised.{none_more, raised_nil, same_more, still_tells_nothing, twice_more}
+use Rattle.rail_ops.proofs.Raised.{raised_nil, same_more, still_tells_nothing, twice_more}
 
 -- switches off change on bits alone
 pub only_down : (board : Board) → IsSoundBoard board → (first : List (List ℕ)) → length first ≡ board.chips → HoldFields board first → (rails : List ℕ) (regs : List (List ℕ)) → AreSwitchedOnly board first regs

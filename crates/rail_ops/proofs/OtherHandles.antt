@@ -1,11 +1,10 @@
 -- A worker's call leaves the handles of each other worker as many as they are.
-use Rattle.std.proofs.Common.{◌≡◌, ◌≢◌, ℕ, ◌+◌, Bool, true, false, cond, not, List, [], ◌∷◌, Option, Some, None, refl, sym, ap, ◌∙◌, subst, arith, length, slice_get, AllPairs}
+use Rattle.std.proofs.Common.{◌≡◌, ◌≢◌, ℕ, Bool, true, false, cond, not, List, [], ◌∷◌, Option, Some, None, refl, sym, ap, ◌∙◌, subst, arith, length, AllPairs}
 use Rattle.std.specs.Prelude.{◌==◌}
 use Rattle.std.proofs.lemmas.Bool.{eqb-true, false_from_ne_true}
 use Rattle.std.proofs.lemmas.List.Sums.{sum_by-cons}
 use Rattle.arrayvec.specs.ArrayString.{ArrayString}
 use Rattle.board.specs.declared.board.Board.{Board}
-use Rattle.board.specs.declared.rail.Rail.{Rail}
 use Rattle.board.specs.declared.rail_id.RailId.{RailId}
 use Rattle.board.specs.Rail.{uv}
 use Rattle.rail_law.specs.Moves.{Move}
@@ -15,13 +14,13 @@ use Rattle.rows.specs.declared.call.Call.TheVariants.{Close, Disable, Enable, Ge
 use Rattle.use_counts.specs.declared.handle_row.HandleRow.{HandleRow}
 use Rattle.plain_board.specs.declared.plain.Plain.{Plain}
 use Rattle.plain_board.specs.Answer.{answer, answered, done, kept_request, new_row, settled, stopped, with_changed, with_request}
-use Rattle.plain_board.specs.Handles.{Entry, count_own, for_open, is_own, on_rail, open_of, without_open}
+use Rattle.plain_board.specs.Handles.{Entry, count_own, for_open, is_own, open_of, without_open}
 use Rattle.plain_board.specs.Inv.{StandApart}
 use Rattle.plain_board.specs.Moved.{after_first}
 use Rattle.plain_board.specs.Plan.{moves_of_call, one_less, one_more}
 use Rattle.plain_board.specs.Refusals.{refusal}
 use Rattle.plain_board.specs.Untied.{IsHandleCall}
-use Rattle.plain_board.proofs.Grown.{HasGrown, after_first-grown}
+use Rattle.plain_board.proofs.Grown.{after_first-grown}
 use Rattle.rail_ops.proofs.Answered.{for_each}
 use Rattle.rail_ops.proofs.NewHandle.{opened_count}
 use Rattle.rail_ops.proofs.OneRow.{count_kept, own_parts}

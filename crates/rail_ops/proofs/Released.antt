@@ -1,19 +1,18 @@
 -- The end of the holds of the start, from how the rails went down that are idle then.
-use Rattle.std.proofs.Common.{◌≡◌, ◌≢◌, ℕ, zero, suc, ◌+◌, ◌<◌, ◌≤◌, ◌&&◌, Bool, true, false, cond, List, [], ◌∷◌, ◌++◌, Option, Some, None, inl, inr, refl, sym, ap, ◌∙◌, subst, arith, length, map, reverse, take, get_or, slice_get, All}
-use Rattle.std.specs.Prelude.{Contains, flat_map, filter, slice_index_or, unwrap_or, option_map, if◌then◌else◌, IfSome}
+use Rattle.std.proofs.Common.{◌≡◌, ℕ, zero, suc, ◌+◌, ◌<◌, ◌&&◌, Bool, true, false, cond, List, [], ◌∷◌, Option, Some, None, inl, inr, refl, sym, ap, ◌∙◌, subst, arith, length, map, reverse, take, get_or, slice_get, All}
+use Rattle.std.specs.Prelude.{Contains, unwrap_or, if◌then◌else◌}
 use Rattle.std.specs.List.{enumerate_from, zip}
 use Rattle.std.specs.Option.{option_map_or}
 use Rattle.std.proofs.lemmas.Bool.{cases_eq, cases_lt}
 use Rattle.std.proofs.lemmas.List.{reverse-append, take_all, take_more}
 use Rattle.std.proofs.lemmas.List.Elements.{All-filter, All-map}
 use Rattle.std.proofs.lemmas.List.FromFn.{get_or-enumerate_from, length-enumerate_from}
-use Rattle.std.proofs.lemmas.Option.{same_Some, slice_get-get_or, slice_get_past}
+use Rattle.std.proofs.lemmas.Option.{slice_get_past}
 use Rattle.reg_outside.specs.Bus.{Bus}
 use Rattle.board_graph.specs.declared.graph.Graph.{Graph}
 use Rattle.board_graph.specs.Graph.{count_of, members}
 use Rattle.board.specs.declared.board.Board.{Board}
 use Rattle.board.specs.declared.rail.Rail.{Rail}
-use Rattle.board.specs.declared.rail_id.RailId.{RailId}
 use Rattle.board.specs.declared.write.Write.{Write}
 use Rattle.board.specs.Fields.{field_at}
 use Rattle.board.specs.Valid.{IsValid}
@@ -22,12 +21,12 @@ use Rattle.rail_law.specs.Moves.{Move, writes_of}
 use Rattle.rail_state.specs.Sight.{IsGuarded, IsOwned}
 use Rattle.rail_state.proofs.Members.{Contains-from_filter}
 use Rattle.rows.specs.declared.answer.Answer.{Answer}
-use Rattle.rows.specs.declared.answer.Answer.TheVariants.{Fault, Ok, Suspended}
+use Rattle.rows.specs.declared.answer.Answer.TheVariants.{Suspended}
 use Rattle.rows.specs.declared.call.Call.TheVariants.{ReleaseBoot}
 use Rattle.use_counts.specs.Book.{Book}
 use Rattle.plain_board.specs.declared.plain.Plain.{Plain}
 use Rattle.plain_board.specs.Counts.{is_held}
-use Rattle.plain_board.specs.Plan.{switch, sweep_off}
+use Rattle.plain_board.specs.Plan.{sweep_off}
 use Rattle.plain_board.specs.Refusals.{refusal}
 use Rattle.plain_board.specs.Seen.{book}
 use Rattle.plain_board.specs.Untied.{CountsNoLoads, HoldFields, IsUntied}

@@ -16,16 +16,15 @@ use Rattle.board.specs.Rail.{is_on, part_field}
 use Rattle.board.specs.Valid.{IsSoundBoard, IsValid}
 use Rattle.board.specs.declared.part.Part.TheVariants.{Enable as EnableBit}
 use Rattle.rail_law.specs.Moves.{Move, update_of_field, writes_of}
-use Rattle.use_counts.specs.Book.{Book}
 use Rattle.plain_board.specs.declared.plain.Plain.{Plain}
 use Rattle.plain_board.specs.Plan.{is_idle, switch, sweep_off, with_off}
 use Rattle.plain_board.specs.Untied.{HoldFields}
-use Rattle.plain_board.proofs.Switches.{AreSwitchedOnly, nothing_switched, switched_at}
+use Rattle.plain_board.proofs.Switches.{nothing_switched, switched_at}
 use Rattle.rail_ops.specs.Sight.{Hands, ShowsSame}
 use Rattle.rail_ops.specs.Taking.{Tells, updates_of}
 use Rattle.rail_ops.specs.Inside.Falling.{CameDown, IsSighted, MayGoOff, WentDown, looks_idle}
 use Rattle.rail_ops.specs.Inside.Raised.{ChangesBook, SwitchesOff, raised}
-use Rattle.rail_ops.proofs.CameDown.{abort_shows, came_nothing, came_on, came_refused, down_none, idle_seen, may_go, sighted_off, went_on}
+use Rattle.rail_ops.proofs.CameDown.{abort_shows, came_on, came_refused, down_none, idle_seen, may_go, sighted_off, went_on}
 use Rattle.rail_ops.proofs.CameUp.{sum_but_one}
 use Rattle.rail_ops.proofs.Upheld.{supply_inside}
 use Rattle.rail_ops.proofs.WayDown.{sighted_same}

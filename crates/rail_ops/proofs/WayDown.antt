@@ -1,18 +1,16 @@
 -- How far the rails of a way go down, from what is seen of the first of them.
-use Rattle.std.proofs.Common.{◌≡◌, ℕ, ◌+◌, ◌-◌, ◌<◌, ◌&&◌, true, false, List, [], ◌∷◌, ◌++◌, Option, Some, None, refl, sym, ap, ◌∙◌, subst, length, eqb, slice_get, All}
+use Rattle.std.proofs.Common.{◌≡◌, ℕ, ◌+◌, true, false, List, [], ◌∷◌, ◌++◌, Option, Some, None, sym, ap, ◌∙◌, subst, length, slice_get, All}
 use Rattle.std.specs.Prelude.{Contains, option_map}
 use Rattle.std.proofs.lemmas.Option.{slice_get_within}
 use Rattle.reg_outside.specs.Bus.{Bus}
 use Rattle.board_graph.specs.Graph.{supply_at}
 use Rattle.board.specs.declared.board.Board.{Board}
 use Rattle.board.specs.declared.event.Event.TheVariants.{AbortDisable, PreDisable}
-use Rattle.board.specs.declared.part.Part.TheVariants.{Enable as EnableBit}
 use Rattle.board.specs.declared.rail.Rail.{Rail}
 use Rattle.board.specs.declared.rail_id.RailId.{RailId}
 use Rattle.board.specs.Valid.{IsValid}
 use Rattle.rail_law.specs.Moves.{Move}
 use Rattle.rail_state.specs.Sight.{IsGuarded}
-use Rattle.use_counts.specs.Book.{Book}
 use Rattle.plain_board.specs.declared.plain.Plain.{Plain}
 use Rattle.plain_board.specs.Plan.{chain_off, is_idle, switch, upward}
 use Rattle.plain_board.specs.Untied.{HoldFields}

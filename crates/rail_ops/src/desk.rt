@@ -1,17 +1,15 @@
 ghost use Rattle.std.specs.Prelude.{◌≡◌, ◌<◌, length, IfOk, IsOk, OnErr};
 ghost use Rattle.board.specs.Valid.{IsValid};
-ghost use Rattle.rows.specs.Row.{NamesRail};
 ghost use Rattle.reg_outside.specs.Bus.{told_by};
-ghost use Rattle.plain_board.specs.Untied.{CountsNoLoads, IsHandleCall, IsUntied};
+ghost use Rattle.plain_board.specs.Untied.{CountsNoLoads, IsUntied};
 ghost use Rattle.rail_ops.specs.Exact.{Leaves, Performs};
 ghost use Rattle.rail_ops.specs.Sight.{IsReady, placed, shown_by};
 
 use crate::disabling::disable;
 use crate::enabling::enable;
-use crate::looking;
-use crate::opening;
 use crate::outcome::{Outcome, without_writes};
 use crate::releasing::release;
+use crate::{looking, opening};
 use board::{Board, Handle, RailId};
 use rail_state::Rails;
 use reg_outside::Wire;
@@ -240,69 +238,5 @@ impl<'a, R: Rails, W: Wire> Desk<'a, R, W> {
             return Ok(without_writes(alloc, Answer::Suspended));
         }
         release(alloc, self.board, self.rails, self.wire, self.keep)
-    }
-
-    /// STUB
-    pub fn set(&mut self, alloc: Global, handle: Handle, lo: u32, hi: u32) -> Result<Outcome, AllocError>
-        requires valid { IsValid self.old.board.now }
-        requires untied { IsUntied self.old.board.now }
-        requires no_loads { CountsNoLoads self.old.board.now }
-        requires board { R.board self.old.rails.now ≡ self.old.board.now }
-        requires fits { R.fits self.old.rails.now }
-        requires ready { IsReady (placed (shown_by R.board R.rails R.bits R.states self.old.rails.now) self.old.mine.now self.old.worker) (Call.Set handle lo hi) }
-        ensures exact { IfOk result (λ outcome. Performs (Call.Set handle lo hi) (placed (shown_by R.board R.rails R.bits R.states self.old.rails.now) self.old.mine.now self.old.worker) (placed (shown_by R.board R.rails R.bits R.states self.new.rails.now) self.new.mine.now self.new.worker) (told_by W.accepted W.plan W.faults self.old.wire.now) (told_by W.accepted W.plan W.faults self.new.wire.now) self.old.keep outcome.answer outcome.writes) }
-        ensures fits { R.fits self.new.rails.now }
-        ensures board { R.board self.new.rails.now ≡ R.board self.old.rails.now }
-        ensures rails { R.rails self.new.rails.now ≡ R.rails self.old.rails.now }
-        ensures base { R.base self.new.rails.now ≡ R.base self.old.rails.now }
-        ensures same_board { self.new.board.now ≡ self.old.board.now }
-        ensures worker { self.new.worker ≡ self.old.worker }
-        ensures keep { self.new.keep ≡ self.old.keep }
-        ensures lent_rails { self.new.rails.ghost_name ≡ self.old.rails.ghost_name }
-        ensures lent_wire { self.new.wire.ghost_name ≡ self.old.wire.ghost_name }
-        ensures lent_names { self.new.mine.ghost_name ≡ self.old.mine.ghost_name }
-    {
-        let _stub = (alloc, handle, lo, hi);
-        Err(AllocError)
-    }
-
-    /// Performs a call on a handle, or ends the holds of the start: the one of the calls above that the
-    /// call names.
-    pub fn perform(&mut self, alloc: Global, call: Call) -> Result<Outcome, AllocError>
-        requires valid { IsValid self.old.board.now }
-        requires untied { IsUntied self.old.board.now }
-        requires no_loads { CountsNoLoads self.old.board.now }
-        requires board { R.board self.old.rails.now ≡ self.old.board.now }
-        requires fits { R.fits self.old.rails.now }
-        requires built { IsHandleCall call }
-        requires rail { NamesRail self.old.board.now call }
-        requires ready { IsReady (placed (shown_by R.board R.rails R.bits R.states self.old.rails.now) self.old.mine.now self.old.worker) call }
-        ensures exact { IfOk result (λ outcome. Performs call (placed (shown_by R.board R.rails R.bits R.states self.old.rails.now) self.old.mine.now self.old.worker) (placed (shown_by R.board R.rails R.bits R.states self.new.rails.now) self.new.mine.now self.new.worker) (told_by W.accepted W.plan W.faults self.old.wire.now) (told_by W.accepted W.plan W.faults self.new.wire.now) self.old.keep outcome.answer outcome.writes) }
-        ensures fits { R.fits self.new.rails.now }
-        ensures board { R.board self.new.rails.now ≡ R.board self.old.rails.now }
-        ensures rails { R.rails self.new.rails.now ≡ R.rails self.old.rails.now }
-        ensures base { R.base self.new.rails.now ≡ R.base self.old.rails.now }
-        ensures same_board { self.new.board.now ≡ self.old.board.now }
-        ensures worker { self.new.worker ≡ self.old.worker }
-        ensures keep { self.new.keep ≡ self.old.keep }
-        ensures lent_rails { self.new.rails.ghost_name ≡ self.old.rails.ghost_name }
-        ensures lent_wire { self.new.wire.ghost_name ≡ self.old.wire.ghost_name }
-        ensures lent_names { self.new.mine.ghost_name ≡ self.old.mine.ghost_name }
-    {
-        match call {
-            Call::Open {
-                handle,
-                rail,
-                exclusive,
-            } => self.open_handle(alloc, handle, rail, exclusive),
-            Call::Close { handle } => self.close_handle(alloc, handle),
-            Call::Enable { handle } => self.enable(alloc, handle),
-            Call::Disable { handle } => self.disable(alloc, handle),
-            Call::Set { handle, lo, hi } => self.set(alloc, handle, lo, hi),
-            Call::Get { handle } => self.get(alloc, handle),
-            Call::IsOn { handle } => self.is_on(alloc, handle),
-            Call::ReleaseBoot => self.release_boot(alloc),
-            _ => unreachable!(),
-        }
     }
 }

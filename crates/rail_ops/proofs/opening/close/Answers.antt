@@ -1,4 +1,4 @@
-use Rattle.std.proofs.Common.{◌≡◌, ℕ, false, List, Some, None, refl, sym, ap, ◌∙◌, subst, length, slice_get, slice_index_or}
+use Rattle.std.proofs.Common.{◌≡◌, ℕ, false, List, Some, refl, sym, ap, ◌∙◌, subst, slice_get, slice_index_or}
 use Rattle.std.specs.Prelude.{IsSome, nat_lt, option_map, position}
 use Rattle.std.proofs.lemmas.Bool.{le-ltb, lt-ltb}
 use Rattle.std.proofs.lemmas.Option.{get_or_from_slice_get}

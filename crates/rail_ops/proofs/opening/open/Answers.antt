@@ -1,4 +1,4 @@
-use Rattle.std.proofs.Common.{◌≡◌, ◌<◌, ◌+◌, ◌∷◌, ◌++◌, [], ℕ, false, List, Some, None, refl, sym, ap, ◌∙◌, subst, arith, length, All}
+use Rattle.std.proofs.Common.{◌≡◌, ◌<◌, ◌∷◌, ◌++◌, [], false, List, Some, None, sym, ap, ◌∙◌, subst, arith, length, All}
 use Rattle.std.specs.Prelude.{bytes_eq, if◌then◌else◌}
 use Rattle.board.specs.declared.board.Board.{Board}
 use Rattle.use_counts.specs.Book.{Book}

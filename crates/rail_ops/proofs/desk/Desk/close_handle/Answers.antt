@@ -1,4 +1,4 @@
-use Rattle.std.proofs.Common.{◌≡◌, refl}
+use Rattle.std.proofs.Common.{refl}
 use Rattle.reg_outside.specs.Bus.{told_by}
 use Rattle.rows.specs.declared.call.Call.TheVariants.{Close}
 use Rattle.rail_ops.specs.Sight.{placed, shown_by}
